@@ -1,0 +1,9 @@
+pub mod Semirings
+pub mod Numbers
+pub mod Invariants
+pub mod Booleans
+pub mod Counts
+pub mod Costs
+pub mod CostCounts
+pub mod TwoCosts
+pub mod Examples

@@ -1,0 +1,3 @@
+pub mod ChannelLaws
+pub mod Faults
+pub mod Describing

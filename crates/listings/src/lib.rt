@@ -1,0 +1,3 @@
+// The texts that the programs print, as bytes.
+pub mod listing;
+pub mod text;

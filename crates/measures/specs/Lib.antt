@@ -1,0 +1,4 @@
+pub mod Squares
+pub mod BitCounts
+pub mod Erasings
+pub mod Examples

@@ -1,0 +1,4 @@
+pub mod Pieces
+pub mod Holding
+pub mod Spelling
+pub mod Ordering

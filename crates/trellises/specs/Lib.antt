@@ -1,0 +1,9 @@
+pub mod Bare
+pub mod Cascades
+pub mod Checks
+pub mod Codes
+pub mod Digits
+pub mod Examples
+pub mod Full
+pub mod RunLengths
+pub mod Taps
