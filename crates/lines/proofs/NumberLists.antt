@@ -2,15 +2,14 @@
 use mathlib.Core.Path.{_≡_, refl, sym, ap, subst, _∙_}
 use mathlib.Core.Bool.{Bool, true, false, cond, _&&_}
 use mathlib.Core.List.{List, [], _∷_, _++_, append-nil, append-assoc}
-use mathlib.Core.Logic.{⊎-elim}
-use Prim.Native.Nat.{ℕ, zero, suc, _+_, _-_, _≤_, _<_, min}
+use Prim.Native.Nat.{ℕ, zero, suc, _+_, _-_, _≤_, _<_}
 use native.Mathlib.Omega.{arith}
 use lib.Dec.{leb, ltb}
 use lib.IntN.{ℤ, pos}
 use lib.ListN.{length, take, drop, set, replicate, length-append}
 use borrow.Author.Tests.{le-leb, lt-leb}
-use Rattle.std.proofs.shelf.Lists.{set-at, take-all, length-push}
-use Rattle.std.proofs.shelf.Tests.{ltb-true, ltb-false, and-right, cases-lt}
+use Rattle.std.proofs.shelf.Lists.{set-at, length-push}
+use Rattle.std.proofs.shelf.Tests.{ltb-true, ltb-false, and-right}
 use Rattle.std.specs.Options.{mapped}
 use Rattle.std.specs.declared.option.Option.{Option}
 use Rattle.std.specs.declared.option.Option.the-variants.{Some, None}
@@ -112,8 +111,3 @@ module _ (r : Radix) (ws : List (List ℕ)) where
         let b : leb (length ws) 7 ≡ true = le-leb _ _ (omega (arith, ended e, h .few)) in
         let values : all-numbers r ws ≡ Some (h .xs) = h .values ∙ ap (λ (k : List (List ℕ)). onto (h .xs) (all-numbers r k)) (none-of left e) ∙ ap (λ (l : List ℤ). Some l) (append-nil (h .xs)) in
         rw (a, b) (ap (λ (m : NumberList). Some m) (h .is) ∙ ap (mapped list-from) (sym values))
-
--- no more than all of a list is taken
-pub take-up-to : {X : Type 0} (n k : ℕ) (xs : List X) → length xs ≡ k → take (min n k) xs ≡ take n xs
-take-up-to n k xs h =
-    ⊎-elim (λ (l : n < k). ap (λ (m : ℕ). take m xs) (let e : min n k ≡ n = omega arith in e)) (λ (l : k ≤ n). let e : min n k ≡ k = omega arith in ap (λ (m : ℕ). take m xs) e ∙ take-all k xs (omega arith) ∙ sym (take-all n xs (omega arith))) (cases-lt n k)

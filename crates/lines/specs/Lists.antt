@@ -1,7 +1,7 @@
 -- The numbers that stand at the end of a line.
 use mathlib.Core.Bool.{Bool, true, false, cond, _&&_}
 use mathlib.Core.List.{List, [], _∷_, _++_}
-use Prim.Native.Nat.{ℕ, _+_, _-_}
+use Prim.Native.Nat.{ℕ, _+_, _-_, min}
 use lib.Dec.{leb}
 use lib.IntN.{ℤ, pos}
 use lib.ListN.{length, take, set, replicate}
@@ -15,9 +15,9 @@ use Rattle.lines.specs.Numbers.{number-in}
 abbrev pub list-from : List ℤ → NumberList
 list-from xs = record { items = xs ++ replicate (7 - length xs) (pos 0); len = length xs }
 
--- the numbers that a list holds
+-- the numbers that a list holds, seven at most
 abbrev pub list-items : NumberList → List ℤ
-list-items l = take (l .len) (l .items)
+list-items l = take (min (l .len) 7) (l .items)
 
 -- one number more at the end
 abbrev pub with-last : NumberList → ℤ → NumberList

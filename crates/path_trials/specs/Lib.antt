@@ -1,0 +1,3 @@
+pub mod Tangles
+pub mod Distances
+pub mod Matrices

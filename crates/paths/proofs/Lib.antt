@@ -1,0 +1,11 @@
+pub mod Totals
+pub mod Summing
+pub mod Rowing
+pub mod Running
+pub mod Ordering
+pub mod Listing
+pub mod Reordering
+pub mod Reading
+pub mod Leasts
+pub mod Firsts
+pub mod Sayings

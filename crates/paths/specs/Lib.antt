@@ -1,0 +1,11 @@
+pub mod Paths
+pub mod Lists
+pub mod Listings
+pub mod Sums
+pub mod Orders
+pub mod Cheapest
+pub mod Laws
+pub mod Readings
+pub mod Rows
+pub mod Recursion
+pub mod Examples

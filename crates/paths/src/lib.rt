@@ -1,0 +1,6 @@
+// Paths through a trellis, and sums over all of them in any weight algebra.
+mod entries;
+pub mod examples;
+pub mod forward;
+pub mod laws;
+mod row;
