@@ -19,13 +19,13 @@ use Rattle.paths.specs.Laws.{Total-order, One-way, Transitive}
 
 -- ---- two numbers, and then the rest
 
-lower-lt : (i j : ℕ) (b : Bool) → i < j → lower i j b ≡ true
+pub lower-lt : (i j : ℕ) (b : Bool) → i < j → lower i j b ≡ true
 lower-lt i j b h = ap (λ t. t || (eqb i j && b)) (lt-ltb i j h)
 
-lower-eq : (i j : ℕ) (b : Bool) → i ≡ j → lower i j b ≡ b
+pub lower-eq : (i j : ℕ) (b : Bool) → i ≡ j → lower i j b ≡ b
 lower-eq i j b e = ap (λ t. t || (eqb i j && b)) (le-ltb i j (omega arith)) ∙ ap (λ t. false || (t && b)) (eq-eqb i j e)
 
-lower-says : (i j : ℕ) (b : Bool) → lower i j b ≡ true → (i < j) ⊎ ((i ≡ j) × (b ≡ true))
+pub lower-says : (i j : ℕ) (b : Bool) → lower i j b ≡ true → (i < j) ⊎ ((i ≡ j) × (b ≡ true))
 lower-says i j b h = elim (or-cases (ltb i j) (eqb i j && b) h) [ inl l ↦ inl (ltb-true i j l) | inr l ↦ let p = and-parts (eqb i j) b l in inr (eqb-true i j (p .0), p .1) ]
 
 lower-one-way : (i j : ℕ) (b c : Bool) → (b ≡ true → c ≡ true → ⊥) → lower i j b ≡ true → lower j i c ≡ true → ⊥

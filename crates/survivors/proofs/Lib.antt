@@ -1,0 +1,7 @@
+pub mod Pushes
+pub mod Scans
+pub mod Firsts
+pub mod Bests
+pub mod Rowing
+pub mod Tabling
+pub mod Tracing

@@ -1,0 +1,6 @@
+pub mod Choices
+pub mod Laws
+pub mod Traces
+pub mod Survivors
+pub mod Rows
+pub mod Examples
