@@ -8,17 +8,8 @@ ghost use Rattle.paths.specs.Listings.{below};
 ghost use Rattle.paths.specs.Sums.{total};
 ghost use Rattle.paths.specs.Rows.{Entries, Copied};
 ghost use Rattle.paths.specs.Recursion.{opened};
+use crate::anchor::is_permitted;
 use algebras::algebra::Algebra;
-
-// Whether a start or an end permits a state.
-pub(crate) fn is_permitted(anchor: Option<usize>, state: usize) -> bool
-    ensures { λ r. ⌜ r ≡ permits anchor state ⌝ }
-{
-    match anchor {
-        None => true,
-        Some(permitted) => state == permitted,
-    }
-}
 
 // Makes each of the first n entries zero.
 pub(crate) fn clear_entries<W: Copy>(row: &mut [W], n: usize, zero: W)

@@ -6,7 +6,6 @@ ghost use Rattle.model.specs.Trellises.{most-states};
 ghost use Rattle.survivors.specs.Choices.{most-samples, Table-of, Costs-of};
 ghost use Rattle.survivors.specs.Survivors.{opening};
 ghost use Rattle.survivors.specs.Rows.{held, Zeros, Costed, Tabled};
-use crate::anchor::is_permitted;
 use crate::layout::MOST_SAMPLES;
 use crate::layout::MOST_STATES;
 use crate::layout::TABLE_SIZE;
@@ -14,6 +13,7 @@ use crate::layout::place_of;
 use crate::step::advance;
 use model::measure::Measure;
 use model::trellis::Trellis;
+use paths::anchor::is_permitted;
 
 // The costs before any sample: nothing for a permitted start, and none for any other state.
 fn open_costs(row: &mut [Option<u64>], n: usize, start: Option<usize>)

@@ -5,10 +5,10 @@ ghost use lib.ListN.{length};
 ghost use Rattle.survivors.specs.Survivors.{pick, scan, at-end};
 ghost use Rattle.survivors.specs.Rows.{held};
 ghost use Rattle.survivors.specs.Traces.{Ends};
-use crate::anchor::is_permitted;
 use crate::ending::Ending;
 use crate::layout::MOST_STATES;
 use model::trellis::Trellis;
+use paths::anchor::is_permitted;
 
 // The cheaper of two, and the one met first where they are equal.
 fn better(best: Option<(u64, usize)>, state: usize, cost: Option<u64>) -> Option<(u64, usize)>

@@ -1,5 +1,4 @@
 // The survivor pass, which keeps for each step and state the last branch of the cheapest path to it, and the way back.
-mod anchor;
 pub mod choices;
 pub mod ending;
 pub mod ends;
