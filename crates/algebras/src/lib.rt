@@ -1,4 +1,6 @@
 // Weight algebras: the interface, and five of them.
+#![tactic(auto)]
+
 pub mod algebra;
 pub mod boolean;
 pub mod cheapest;

@@ -2,6 +2,8 @@
 //
 //   bench WORKLOAD FRAMES [PART [SAMPLES]]
 //   bench size
+#![tactic(auto)]
+
 mod checksum;
 mod frames;
 mod noise;

@@ -1,4 +1,6 @@
 // Reads a channel description from standard input, and prints the channel that it sets up or the refusal.
+#![tactic(auto)]
+
 use anyhow::anyhow;
 use descriptions::reader::read_description;
 use listings::listing::setup_text;

@@ -1,4 +1,6 @@
 // Tries many descriptions: standard input holds them one after the other, each ended by byte 1.
+#![tactic(auto)]
+
 ghost use Rattle.std.specs.Prelude.{◌<◌, length, IfSome};
 
 use descriptions::reader::read_description;

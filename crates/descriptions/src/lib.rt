@@ -1,4 +1,6 @@
 // Channels from their descriptions.
+#![tactic(auto)]
+
 pub mod channel;
 pub mod check;
 pub mod examples;

@@ -1,4 +1,6 @@
 // Reads a recording from standard input, and prints what is detected in it or why it is refused.
+#![tactic(auto)]
+
 use anyhow::anyhow;
 use outcomes::text::detect_text;
 use std::io::{Read, Write};

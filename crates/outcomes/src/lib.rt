@@ -1,2 +1,4 @@
 // What the program `detect` prints.
+#![tactic(auto)]
+
 pub mod text;

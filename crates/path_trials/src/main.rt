@@ -1,4 +1,6 @@
 // Sums over paths, tried on a trellis and in an algebra that are made for it.
+#![tactic(auto)]
+
 mod distance;
 mod matrices;
 mod matrix;

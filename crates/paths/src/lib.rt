@@ -1,4 +1,6 @@
 // Paths through a trellis, and sums over all of them in any weight algebra.
+#![tactic(auto)]
+
 pub mod anchor;
 pub mod branch;
 pub mod branches;

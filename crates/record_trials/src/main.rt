@@ -1,4 +1,6 @@
 // Lists of calls, refused and not allowed ones among them, tried on small channels.
+#![tactic(auto)]
+
 mod knot;
 mod on_codes;
 mod on_knots;

@@ -1,5 +1,7 @@
 // Reads many recordings from standard input, each after its length in four bytes, the lowest first, and prints what is
 // detected in each or why it is refused.
+#![tactic(auto)]
+
 use crate::pieces::first_piece;
 use outcomes::text::detect_text;
 use std::alloc::Global;

@@ -1,4 +1,6 @@
 // A record of samples over a trellis and a measure: it listens, it is settled, and then it answers.
+#![tactic(auto)]
+
 pub mod answers;
 pub mod call;
 pub mod listening;

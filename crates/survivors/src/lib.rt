@@ -1,4 +1,6 @@
 // The survivor pass, which keeps for each step and state the last branch of the cheapest path to it, and the way back.
+#![tactic(auto)]
+
 pub mod choices;
 mod costs;
 pub mod ending;

@@ -1,4 +1,6 @@
 // Trellises: taps, convolutional codes, run-length limits, and cascades of one over another.
+#![tactic(auto)]
+
 pub mod cascade;
 pub mod code;
 pub mod examples;
