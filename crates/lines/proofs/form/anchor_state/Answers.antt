@@ -8,7 +8,7 @@ use Rattle.lines.proofs.form.anchor_state.Goals as goal
 
 pub returns-else-is : goal.returns-else-is
 returns-else-is c =
-    let told = c.in-ok-bytes.ensures in
-    let none = name_first c.args.words.now c.in-ok-bytes.field-0 told.word told.bytes c.in-Name.name c.in-Name.field-1 Decimal c.in-Name.is in
+    let told = c.in_ok-bytes.ensures in
+    let none = name_first c.args.words.now c.in_ok-bytes.field-0 told.word told.bytes c.in-Name.name c.in-Name.field-1 Decimal c.in-Name.is in
     let first = ap (λ (w : Word). Some (word_bytes w)) (sym c.in-Name.is) ∙ told.bytes in
     no_anchor _ first c.if-is.ensures none

@@ -4,7 +4,7 @@ use Rattle.lines.specs.Forms.{well_spaced}
 use Rattle.lines.proofs.form.is_line_from.Goals as goal
 
 pub returns-then-from-text : goal.returns-then-from-text
-returns-then-from-text c = c.is-well-spaced.ensures ∙ ap well_spaced (take_rest c.args.text.now c.args.from)
+returns-then-from-text c = c.is_well_spaced.ensures ∙ ap well_spaced (take_rest c.args.text.now c.args.from)
 
 pub returns-else-from-text : goal.returns-else-from-text
 returns-else-from-text c =

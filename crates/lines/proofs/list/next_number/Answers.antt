@@ -6,7 +6,7 @@ use Rattle.lines.proofs.list.next_number.Goals as goal
 
 pub returns-in-Name : goal.returns-in-Name
 returns-in-Name c =
-    let told = c.in-ok-bytes.ensures in
-    let none = name_first c.args.words.now c.in-ok-bytes.field-0 told.word told.bytes c.in-Name.field-0 c.in-Name.field-1 c.args.radix c.in-Name.is in
+    let told = c.in_ok-bytes.ensures in
+    let none = name_first c.args.words.now c.in_ok-bytes.field-0 told.word told.bytes c.in-Name.field-0 c.in-Name.field-1 c.args.radix c.in-Name.is in
     let first = ap (λ (w : Word). Some (word_bytes w)) (sym c.in-Name.is) ∙ told.bytes in
     record { value = none ∙ first_number_at c.args.radix _ first; others = told.others }

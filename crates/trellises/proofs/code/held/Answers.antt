@@ -8,8 +8,8 @@ loop-i-preserved c =
     let gs = c.args.generators.now in
     let i = c.loop-i.i in
     let fits : SFits w32 (get_or gs i (pos 0)) = search rules in
-    let value : c.unsigned-abs.result ≡ nat_abs (get_or gs i (pos 0)) = simp to_z-of_z at c.unsigned-abs.ensures.value in
-    let more = take_more_set c.loop-i.held i c.unsigned-abs.result (omega arith) in
+    let value : c.unsigned_abs.result ≡ nat_abs (get_or gs i (pos 0)) = simp to_z-of_z at c.unsigned_abs.ensures.value in
+    let more = take_more_set c.loop-i.held i c.unsigned_abs.result (omega arith) in
     let mapped = map_more nat_abs gs i (pos 0) c.loop-i-test.true in
     let so_far = c.loop-i.invariant.1 in
     (search rules, cc)

@@ -7,8 +7,8 @@ use Rattle.trellises.specs.Taps.{level, tapped}
 use Rattle.trellises.specs.Tapping.{place_some, place_after, letter_below, tapped_turn, between_at}
 use Rattle.trellises.proofs.taps.tap_sum.Goals as goal
 
-pub nonzero-div-rest : goal.nonzero-div-rest
-nonzero-div-rest c = place_some c.args.letters c.args.taps.now c.loop-tap.tap-index c.loop-tap.place c.loop-tap.rest c.requires.two c.loop-tap-test.true c.loop-tap.invariant.1 c.loop-tap.invariant.2
+pub nonzero_div-rest : goal.nonzero_div-rest
+nonzero_div-rest c = place_some c.args.letters c.args.taps.now c.loop-tap.tap-index c.loop-tap.place c.loop-tap.rest c.requires.two c.loop-tap-test.true c.loop-tap.invariant.1 c.loop-tap.invariant.2
 
 pub term-sum-requires : goal.term-sum-requires
 term-sum-requires c =
@@ -19,11 +19,11 @@ term-sum-requires c =
       below = letter_below c.args.letters c.args.taps.now c.loop-tap.tap-index c.loop-tap.place c.loop-tap.rest c.requires.two c.loop-tap-test.true c.loop-tap.invariant.1 c.loop-tap.invariant.2;
     }
 
-pub overflow-add-sum : goal.overflow-add-sum
-overflow-add-sum c = omega (arith, ints)
+pub overflow_add-sum : goal.overflow_add-sum
+overflow_add-sum c = omega (arith, ints)
 
-pub nonzero-rem-rest : goal.nonzero-rem-rest
-nonzero-rem-rest c = place_some c.args.letters c.args.taps.now c.loop-tap.tap-index c.loop-tap.place c.loop-tap.rest c.requires.two c.loop-tap-test.true c.loop-tap.invariant.1 c.loop-tap.invariant.2
+pub nonzero_rem-rest : goal.nonzero_rem-rest
+nonzero_rem-rest c = place_some c.args.letters c.args.taps.now c.loop-tap.tap-index c.loop-tap.place c.loop-tap.rest c.requires.two c.loop-tap-test.true c.loop-tap.invariant.1 c.loop-tap.invariant.2
 
 pub loop-tap-preserved : goal.loop-tap-preserved
 loop-tap-preserved c =
@@ -33,7 +33,7 @@ loop-tap-preserved c =
     let s = c.loop-tap.sum in
     let t = c.term-sum.result in
     let later = tapped c.args.letters (drop (i + 1) hs) (digits_of c.args.letters (length (drop (i + 1) hs)) (c.loop-tap.rest % (c.loop-tap.place / c.args.letters))) in
-    let is = c.loop-tap.sum_is in
+    let is = c.loop-tap.sum-is in
     let so_far = c.loop-tap.invariant in
     let size : nat_abs s ≤ 381 * i = simp is at so_far.0 in
     let fits : SFits w32 x = search rules in
@@ -51,7 +51,7 @@ pub returns : goal.returns
 returns c =
     let hs = c.args.taps.now in
     let s = c.loop-tap.sum in
-    let is = c.loop-tap.sum_is in
+    let is = c.loop-tap.sum-is in
     let so_far = c.loop-tap.invariant in
     let size : nat_abs s ≤ 381 * c.loop-tap.tap-index = simp is at so_far.0 in
     let sum_fits : SFits w16 s = omega (arith, ints) in

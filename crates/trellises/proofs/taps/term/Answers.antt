@@ -6,9 +6,9 @@ use Rattle.trellises.proofs.taps.term.Goals as goal
 pub returns : goal.returns
 returns c =
     let x = c.args.tap in
-    let y = c.level-of.result in
+    let y = c.level_of.result in
     let fits : SFits w32 x = c.ranges.tap in
     let level_fits : SFits w32 y = search rules in
-    let size : nat_abs (x *ℤ y) ≤ 381 = rw c.level-of.ensures (term_size c.args.letters c.args.letter x c.requires.below c.requires.few c.requires.small) in
+    let size : nat_abs (x *ℤ y) ≤ 381 = rw c.level_of.ensures (term_size c.args.letters c.args.letter x c.requires.below c.requires.few c.requires.small) in
     let product_fits : SFits w32 (x *ℤ y) = omega (arith, ints) in
-    record { value = simp to_z-of_z (ap (λ z. x *ℤ z) c.level-of.ensures); bound = simp to_z-of_z size }
+    record { value = simp to_z-of_z (ap (λ z. x *ℤ z) c.level_of.ensures); bound = simp to_z-of_z size }

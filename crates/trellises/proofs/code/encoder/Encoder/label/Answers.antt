@@ -5,8 +5,8 @@ use Rattle.trellises.specs.Codes.{code_word}
 use Rattle.trellises.specs.Coding.{held_small}
 use Rattle.trellises.proofs.code.encoder.Encoder.label.Goals as goal
 
-pub overflow-cast-result : goal.overflow-cast-result
-overflow-cast-result c =
+pub overflow_cast-result : goal.overflow_cast-result
+overflow_cast-result c =
     let e = c.args.self.now in
     let made : c.word.result ≡ code_word (take e.count e.generators) c.args.register = search rules in
     let small = held_small e.inversion e.count e.generators c.args.register c.word.result e.few e.held e.inverts made in

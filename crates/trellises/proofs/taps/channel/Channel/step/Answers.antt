@@ -8,8 +8,8 @@ use Rattle.trellises.specs.Channels.{counted, states_are, top_is}
 use Rattle.trellises.specs.Tapping.{label_is, next_is}
 use Rattle.trellises.proofs.taps.channel.Channel.step.Goals as goal
 
-pub tap-sum-label-requires : goal.tap-sum-label-requires
-tap-sum-label-requires c =
+pub tap_sum-label-requires : goal.tap_sum-label-requires
+tap_sum-label-requires c =
     let e = c.args.self.now in
     record {
       two = e.two;
@@ -26,8 +26,8 @@ returns c =
     let hs = taps_of e in
     let some : 1 ≤ length hs = omega (arith, counted e) in
     let state : c.args.state < e.letters ^ memory hs = rw (← states_are e) c.requires.state in
-    let fits : SFits w16 c.tap-sum-label.result = search rules in
-    let summed : c.tap-sum-label.result ≡ tapped e.letters hs (digits_of e.letters (length hs) (c.args.letter * e.letters ^ memory hs + c.args.state)) = simp (sub-zero, states_are e) at c.tap-sum-label.ensures in
+    let fits : SFits w16 c.tap_sum-label.result = search rules in
+    let summed : c.tap_sum-label.result ≡ tapped e.letters hs (digits_of e.letters (length hs) (c.args.letter * e.letters ^ memory hs + c.args.state)) = simp (sub-zero, states_are e) at c.tap_sum-label.ensures in
     record {
       next = simp (states_are e) (next_is e.letters hs c.args.state c.args.letter some state c.requires.letter);
       label = simp to_z-of_z (summed ∙ label_is e.letters hs c.args.state c.args.letter some state c.requires.letter);
