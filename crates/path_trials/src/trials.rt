@@ -38,7 +38,7 @@ fn run<A: Algebra>(
     first: &mut [A::Weight],
     second: &mut [A::Weight],
 ) -> Result<A::Weight, Refusal>
-    ensures value { result_ok result ≡ if_long_enough tangle first.old second.old (path_sum tangle distance semiring trial.entry.start trial.entry.end trial.entry.samples.now) }
+    ensures value { result_ok result ≡ if_long_enough tangle first.old second.old (path_sum tangle distance A.Algebra.semiring trial.entry.start trial.entry.end trial.entry.samples.now) }
     ensures checked { answer result ≡ row_check tangle first.old second.old }
 {
     forward(

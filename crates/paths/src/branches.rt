@@ -42,10 +42,10 @@ fn list_state<T: Trellis>(
     list: &mut [ListedBranch],
     count: usize,
 ) -> usize
-    requires state { state < (meaning trellis.now).states }
+    requires state { state < (T.Trellis.meaning trellis.now).states }
     requires room { 256 ≤ length list.old }
     requires few { count ≤ state * 4 }
-    ensures listed { take result list.new ≡ take count list.old ++ branches_from (meaning trellis.now) state }
+    ensures listed { take result list.new ≡ take count list.old ++ branches_from (T.Trellis.meaning trellis.now) state }
     ensures few { result ≤ (state + 1) * 4 }
 {
     let mut n = count;
@@ -58,7 +58,7 @@ fn list_state<T: Trellis>(
 
 // The list of all branches of a trellis.
 pub fn list_branches<T: Trellis>(trellis: &T) -> BranchList
-    ensures { branches_in result ≡ branches_of (meaning trellis.now) }
+    ensures { branches_in result ≡ branches_of (T.Trellis.meaning trellis.now) }
 {
     let none = ListedBranch {
         from: 0,

@@ -27,7 +27,7 @@ pub(crate) fn open_entries<A: Algebra>(
     start: Option<usize>,
 )
     requires { n ≤ length row.old }
-    ensures { Entries n (opened semiring start) row.old row.new }
+    ensures { Entries n (opened A.Algebra.semiring start) row.old row.new }
 {
     for s in 0..n {
         row[s] = if is_permitted(start, s) {
@@ -64,7 +64,7 @@ pub(crate) fn add_at<A: Algebra>(
     weight: A::Weight,
 )
     requires { state < length row.old }
-    ensures { row.new ≡ slice_set row.old state (semiring.plus (slice_index_or row.old state semiring.zero) weight) }
+    ensures { row.new ≡ slice_set row.old state (A.Algebra.semiring.plus (slice_index_or row.old state A.Algebra.semiring.zero) weight) }
 {
     row[state] = algebra.plus(row[state], weight);
 }
@@ -77,7 +77,7 @@ pub(crate) fn total_entries<A: Algebra>(
     end: Option<usize>,
 ) -> A::Weight
     requires { n ≤ length row.now }
-    ensures { result ≡ total semiring (λ s. (if permits end s then slice_index_or row.now s semiring.zero else semiring.zero)) (below n) }
+    ensures { result ≡ total A.Algebra.semiring (λ s. (if permits end s then slice_index_or row.now s A.Algebra.semiring.zero else A.Algebra.semiring.zero)) (below n) }
 {
     let mut sum = algebra.zero();
     for s in 0..n {

@@ -18,7 +18,7 @@ pub(crate) fn extend_entries<M: Measure, A: Algebra>(
     row: &mut [A::Weight],
 )
     requires { AllByRecursion (Within (length from.now) (length row.old)) branches.now }
-    ensures { row.new ≡ with_branches (costs measure.now) semiring sample (λ s. slice_index_or from.now s semiring.zero) row.old branches.now }
+    ensures { row.new ≡ with_branches (M.Measure.costs measure.now) A.Algebra.semiring sample (λ s. slice_index_or from.now s A.Algebra.semiring.zero) row.old branches.now }
 {
     for branch in branches {
         let cost = algebra.weight(measure.cost(branch.label, sample));

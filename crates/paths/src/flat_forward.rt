@@ -26,10 +26,10 @@ fn advance<T: Trellis, M: Measure, A: Algebra>(
     first: &Row<'_, A::Weight>,
     second: &mut Row<'_, A::Weight>,
 )
-    requires branches { branches.now ≡ branches_of (meaning trellis.now) }
-    requires first { (meaning trellis.now).states ≤ length first.now.weights.now }
-    requires second { (meaning trellis.now).states ≤ length second.old.weights.now }
-    ensures second { Entries (meaning trellis.now).states (stepped (meaning trellis.now) (costs measure.now) semiring sample (λ s. slice_index_or first.now.weights.now s semiring.zero)) second.old.weights.now second.new.weights.now }
+    requires branches { branches.now ≡ branches_of (T.Trellis.meaning trellis.now) }
+    requires first { (T.Trellis.meaning trellis.now).states ≤ length first.now.weights.now }
+    requires second { (T.Trellis.meaning trellis.now).states ≤ length second.old.weights.now }
+    ensures second { Entries (T.Trellis.meaning trellis.now).states (stepped (T.Trellis.meaning trellis.now) (M.Measure.costs measure.now) A.Algebra.semiring sample (λ s. slice_index_or first.now.weights.now s A.Algebra.semiring.zero)) second.old.weights.now second.new.weights.now }
     ensures lent { second.new.weights.ghost_name ≡ second.old.weights.ghost_name }
     ensures len { length second.new.weights.now ≡ length second.old.weights.now }
 {
@@ -47,11 +47,11 @@ fn advance_two<T: Trellis, M: Measure, A: Algebra>(
     first: &mut Row<'_, A::Weight>,
     second: &mut Row<'_, A::Weight>,
 )
-    requires branches { branches.now ≡ branches_of (meaning trellis.now) }
-    requires first { (meaning trellis.now).states ≤ length first.old.weights.now }
-    requires second { (meaning trellis.now).states ≤ length second.old.weights.now }
-    ensures first { Entries (meaning trellis.now).states (after (meaning trellis.now) (costs measure.now) semiring (λ s. slice_index_or first.old.weights.now s semiring.zero) (samples.0 ∷ samples.1 ∷ [])) first.old.weights.now first.new.weights.now }
-    ensures second { drop (meaning trellis.now).states second.new.weights.now ≡ drop (meaning trellis.now).states second.old.weights.now }
+    requires branches { branches.now ≡ branches_of (T.Trellis.meaning trellis.now) }
+    requires first { (T.Trellis.meaning trellis.now).states ≤ length first.old.weights.now }
+    requires second { (T.Trellis.meaning trellis.now).states ≤ length second.old.weights.now }
+    ensures first { Entries (T.Trellis.meaning trellis.now).states (after (T.Trellis.meaning trellis.now) (M.Measure.costs measure.now) A.Algebra.semiring (λ s. slice_index_or first.old.weights.now s A.Algebra.semiring.zero) (samples.0 ∷ samples.1 ∷ [])) first.old.weights.now first.new.weights.now }
+    ensures second { drop (T.Trellis.meaning trellis.now).states second.new.weights.now ≡ drop (T.Trellis.meaning trellis.now).states second.old.weights.now }
     ensures first_lent { first.new.weights.ghost_name ≡ first.old.weights.ghost_name }
     ensures first_len { length first.new.weights.now ≡ length first.old.weights.now }
     ensures second_lent { second.new.weights.ghost_name ≡ second.old.weights.ghost_name }
@@ -75,13 +75,13 @@ fn advance_pairs<T: Trellis, M: Measure, A: Algebra>(
     first: &mut Row<'_, A::Weight>,
     second: &mut Row<'_, A::Weight>,
 ) -> usize
-    requires branches { branches.now ≡ branches_of (meaning trellis.now) }
-    requires first { (meaning trellis.now).states ≤ length first.old.weights.now }
-    requires second { (meaning trellis.now).states ≤ length second.old.weights.now }
+    requires branches { branches.now ≡ branches_of (T.Trellis.meaning trellis.now) }
+    requires first { (T.Trellis.meaning trellis.now).states ≤ length first.old.weights.now }
+    requires second { (T.Trellis.meaning trellis.now).states ≤ length second.old.weights.now }
     ensures taken { result ≤ length samples.now }
     ensures left { length samples.now ≤ result + 1 }
-    ensures first { Entries (meaning trellis.now).states (after (meaning trellis.now) (costs measure.now) semiring (λ s. slice_index_or first.old.weights.now s semiring.zero) (take result samples.now)) first.old.weights.now first.new.weights.now }
-    ensures second { drop (meaning trellis.now).states second.new.weights.now ≡ drop (meaning trellis.now).states second.old.weights.now }
+    ensures first { Entries (T.Trellis.meaning trellis.now).states (after (T.Trellis.meaning trellis.now) (M.Measure.costs measure.now) A.Algebra.semiring (λ s. slice_index_or first.old.weights.now s A.Algebra.semiring.zero) (take result samples.now)) first.old.weights.now first.new.weights.now }
+    ensures second { drop (T.Trellis.meaning trellis.now).states second.new.weights.now ≡ drop (T.Trellis.meaning trellis.now).states second.old.weights.now }
     ensures first_lent { first.new.weights.ghost_name ≡ first.old.weights.ghost_name }
     ensures first_len { length first.new.weights.now ≡ length first.old.weights.now }
     ensures second_lent { second.new.weights.ghost_name ≡ second.old.weights.ghost_name }
@@ -106,12 +106,12 @@ fn advance_rest<T: Trellis, M: Measure, A: Algebra>(
     first: &mut Row<'_, A::Weight>,
     second: &mut Row<'_, A::Weight>,
 )
-    requires branches { branches.now ≡ branches_of (meaning trellis.now) }
-    requires first { (meaning trellis.now).states ≤ length first.old.weights.now }
-    requires second { (meaning trellis.now).states ≤ length second.old.weights.now }
+    requires branches { branches.now ≡ branches_of (T.Trellis.meaning trellis.now) }
+    requires first { (T.Trellis.meaning trellis.now).states ≤ length first.old.weights.now }
+    requires second { (T.Trellis.meaning trellis.now).states ≤ length second.old.weights.now }
     requires few { length samples.now ≤ 1 }
-    ensures first { Entries (meaning trellis.now).states (after (meaning trellis.now) (costs measure.now) semiring (λ s. slice_index_or first.old.weights.now s semiring.zero) samples.now) first.old.weights.now first.new.weights.now }
-    ensures second { drop (meaning trellis.now).states second.new.weights.now ≡ drop (meaning trellis.now).states second.old.weights.now }
+    ensures first { Entries (T.Trellis.meaning trellis.now).states (after (T.Trellis.meaning trellis.now) (M.Measure.costs measure.now) A.Algebra.semiring (λ s. slice_index_or first.old.weights.now s A.Algebra.semiring.zero) samples.now) first.old.weights.now first.new.weights.now }
+    ensures second { drop (T.Trellis.meaning trellis.now).states second.new.weights.now ≡ drop (T.Trellis.meaning trellis.now).states second.old.weights.now }
     ensures first_lent { first.new.weights.ghost_name ≡ first.old.weights.ghost_name }
     ensures first_len { length first.new.weights.now ≡ length first.old.weights.now }
     ensures second_lent { second.new.weights.ghost_name ≡ second.old.weights.ghost_name }
@@ -134,10 +134,10 @@ fn advance_all<T: Trellis, M: Measure, A: Algebra>(
     first: &mut Row<'_, A::Weight>,
     second: &mut Row<'_, A::Weight>,
 )
-    requires first { (meaning trellis.now).states ≤ length first.old.weights.now }
-    requires second { (meaning trellis.now).states ≤ length second.old.weights.now }
-    ensures first { Entries (meaning trellis.now).states (after (meaning trellis.now) (costs measure.now) semiring (λ s. slice_index_or first.old.weights.now s semiring.zero) samples.now) first.old.weights.now first.new.weights.now }
-    ensures second { Entries (meaning trellis.now).states (λ _. semiring.zero) second.old.weights.now second.new.weights.now }
+    requires first { (T.Trellis.meaning trellis.now).states ≤ length first.old.weights.now }
+    requires second { (T.Trellis.meaning trellis.now).states ≤ length second.old.weights.now }
+    ensures first { Entries (T.Trellis.meaning trellis.now).states (after (T.Trellis.meaning trellis.now) (M.Measure.costs measure.now) A.Algebra.semiring (λ s. slice_index_or first.old.weights.now s A.Algebra.semiring.zero) samples.now) first.old.weights.now first.new.weights.now }
+    ensures second { Entries (T.Trellis.meaning trellis.now).states (λ _. A.Algebra.semiring.zero) second.old.weights.now second.new.weights.now }
     ensures first_lent { first.new.weights.ghost_name ≡ first.old.weights.ghost_name }
     ensures first_len { length first.new.weights.now ≡ length first.old.weights.now }
     ensures second_lent { second.new.weights.ghost_name ≡ second.old.weights.ghost_name }
@@ -162,13 +162,13 @@ fn forward_rows<T: Trellis, M: Measure, A: Algebra>(
     first: &mut Row<'_, A::Weight>,
     second: &mut Row<'_, A::Weight>,
 ) -> A::Weight
-    requires first { (meaning trellis.now).states ≤ length first.old.weights.now }
-    requires second { (meaning trellis.now).states ≤ length second.old.weights.now }
-    ensures answer { result ≡ path_sum (meaning trellis.now) (costs measure.now) semiring start end samples.now }
-    ensures any_order { AnyOrder (meaning trellis.now) (costs measure.now) semiring start end samples.now result }
-    ensures any_list { AnyList (meaning trellis.now) (costs measure.now) semiring start end samples.now result }
-    ensures first { Entries (meaning trellis.now).states (λ s. path_sum (meaning trellis.now) (costs measure.now) semiring start (Some s) samples.now) first.old.weights.now first.new.weights.now }
-    ensures second { Entries (meaning trellis.now).states (λ _. semiring.zero) second.old.weights.now second.new.weights.now }
+    requires first { (T.Trellis.meaning trellis.now).states ≤ length first.old.weights.now }
+    requires second { (T.Trellis.meaning trellis.now).states ≤ length second.old.weights.now }
+    ensures answer { result ≡ path_sum (T.Trellis.meaning trellis.now) (M.Measure.costs measure.now) A.Algebra.semiring start end samples.now }
+    ensures any_order { AnyOrder (T.Trellis.meaning trellis.now) (M.Measure.costs measure.now) A.Algebra.semiring start end samples.now result }
+    ensures any_list { AnyList (T.Trellis.meaning trellis.now) (M.Measure.costs measure.now) A.Algebra.semiring start end samples.now result }
+    ensures first { Entries (T.Trellis.meaning trellis.now).states (λ s. path_sum (T.Trellis.meaning trellis.now) (M.Measure.costs measure.now) A.Algebra.semiring start (Some s) samples.now) first.old.weights.now first.new.weights.now }
+    ensures second { Entries (T.Trellis.meaning trellis.now).states (λ _. A.Algebra.semiring.zero) second.old.weights.now second.new.weights.now }
     ensures first_lent { first.new.weights.ghost_name ≡ first.old.weights.ghost_name }
     ensures first_len { length first.new.weights.now ≡ length first.old.weights.now }
     ensures second_lent { second.new.weights.ghost_name ≡ second.old.weights.ghost_name }
@@ -192,11 +192,11 @@ pub fn forward<T: Trellis, M: Measure, A: Algebra>(
     first: &mut [A::Weight],
     second: &mut [A::Weight],
 ) -> Result<A::Weight, Refusal>
-    ensures value { result_ok result ≡ if_long_enough (meaning trellis.now) first.old second.old (path_sum (meaning trellis.now) (costs measure.now) semiring start end samples.now) }
-    ensures checked { answer result ≡ row_check (meaning trellis.now) first.old second.old }
-    ensures rows { RowsLeft (meaning trellis.now) (costs measure.now) semiring start samples.now first.old first.new second.old second.new }
-    ensures any_order { IfOk result (AnyOrder (meaning trellis.now) (costs measure.now) semiring start end samples.now) }
-    ensures any_list { IfOk result (AnyList (meaning trellis.now) (costs measure.now) semiring start end samples.now) }
+    ensures value { result_ok result ≡ if_long_enough (T.Trellis.meaning trellis.now) first.old second.old (path_sum (T.Trellis.meaning trellis.now) (M.Measure.costs measure.now) A.Algebra.semiring start end samples.now) }
+    ensures checked { answer result ≡ row_check (T.Trellis.meaning trellis.now) first.old second.old }
+    ensures rows { RowsLeft (T.Trellis.meaning trellis.now) (M.Measure.costs measure.now) A.Algebra.semiring start samples.now first.old first.new second.old second.new }
+    ensures any_order { IfOk result (AnyOrder (T.Trellis.meaning trellis.now) (M.Measure.costs measure.now) A.Algebra.semiring start end samples.now) }
+    ensures any_list { IfOk result (AnyList (T.Trellis.meaning trellis.now) (M.Measure.costs measure.now) A.Algebra.semiring start end samples.now) }
 {
     let n = trellis.states();
     if first.len() < n || second.len() < n {

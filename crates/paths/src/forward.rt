@@ -24,7 +24,7 @@ fn extend_branch<M: Measure, A: Algebra>(
     row: &mut Row<'_, A::Weight>,
 )
     requires { StaysIn (length row.old.weights.now) branch }
-    ensures after { row.new.weights.now ≡ with_branch (costs measure.now) semiring sample branch weight row.old.weights.now }
+    ensures after { row.new.weights.now ≡ with_branch (M.Measure.costs measure.now) A.Algebra.semiring sample branch weight row.old.weights.now }
     ensures lent { row.new.weights.ghost_name ≡ row.old.weights.ghost_name }
     ensures len { length row.new.weights.now ≡ length row.old.weights.now }
 {
@@ -44,8 +44,8 @@ fn extend_state<T: Trellis, M: Measure, A: Algebra>(
     weight: A::Weight,
     row: &mut Row<'_, A::Weight>,
 )
-    requires { (meaning trellis.now).states ≤ length row.old.weights.now }
-    ensures after { Entries (meaning trellis.now).states (λ t. semiring.plus (slice_index_or row.old.weights.now t semiring.zero) (from_state (meaning trellis.now) (costs measure.now) semiring sample state weight t)) row.old.weights.now row.new.weights.now }
+    requires { (T.Trellis.meaning trellis.now).states ≤ length row.old.weights.now }
+    ensures after { Entries (T.Trellis.meaning trellis.now).states (λ t. A.Algebra.semiring.plus (slice_index_or row.old.weights.now t A.Algebra.semiring.zero) (from_state (T.Trellis.meaning trellis.now) (M.Measure.costs measure.now) A.Algebra.semiring sample state weight t)) row.old.weights.now row.new.weights.now }
     ensures lent { row.new.weights.ghost_name ≡ row.old.weights.ghost_name }
     ensures len { length row.new.weights.now ≡ length row.old.weights.now }
 {
@@ -64,9 +64,9 @@ fn extend_states<T: Trellis, M: Measure, A: Algebra>(
     from: &Row<'_, A::Weight>,
     row: &mut Row<'_, A::Weight>,
 )
-    requires from { (meaning trellis.now).states ≤ length from.now.weights.now }
-    requires row { (meaning trellis.now).states ≤ length row.old.weights.now }
-    ensures after { Entries (meaning trellis.now).states (λ t. semiring.plus (slice_index_or row.old.weights.now t semiring.zero) (stepped (meaning trellis.now) (costs measure.now) semiring sample (λ s. get_or from.now.weights.now s semiring.zero) t)) row.old.weights.now row.new.weights.now }
+    requires from { (T.Trellis.meaning trellis.now).states ≤ length from.now.weights.now }
+    requires row { (T.Trellis.meaning trellis.now).states ≤ length row.old.weights.now }
+    ensures after { Entries (T.Trellis.meaning trellis.now).states (λ t. A.Algebra.semiring.plus (slice_index_or row.old.weights.now t A.Algebra.semiring.zero) (stepped (T.Trellis.meaning trellis.now) (M.Measure.costs measure.now) A.Algebra.semiring sample (λ s. get_or from.now.weights.now s A.Algebra.semiring.zero) t)) row.old.weights.now row.new.weights.now }
     ensures lent { row.new.weights.ghost_name ≡ row.old.weights.ghost_name }
     ensures len { length row.new.weights.now ≡ length row.old.weights.now }
 {
@@ -92,11 +92,11 @@ fn advance<T: Trellis, M: Measure, A: Algebra>(
     first: &mut Row<'_, A::Weight>,
     second: &mut Row<'_, A::Weight>,
 )
-    requires first { (meaning trellis.now).states ≤ length first.old.weights.now }
-    requires second { (meaning trellis.now).states ≤ length second.old.weights.now }
-    requires clear { (s : ℕ) → s < (meaning trellis.now).states → slice_index_or second.old.weights.now s semiring.zero ≡ semiring.zero }
-    ensures first { Entries (meaning trellis.now).states (stepped (meaning trellis.now) (costs measure.now) semiring sample (λ s. get_or first.old.weights.now s semiring.zero)) first.old.weights.now first.new.weights.now }
-    ensures second { Entries (meaning trellis.now).states (λ _. semiring.zero) second.old.weights.now second.new.weights.now }
+    requires first { (T.Trellis.meaning trellis.now).states ≤ length first.old.weights.now }
+    requires second { (T.Trellis.meaning trellis.now).states ≤ length second.old.weights.now }
+    requires clear { (s : ℕ) → s < (T.Trellis.meaning trellis.now).states → slice_index_or second.old.weights.now s A.Algebra.semiring.zero ≡ A.Algebra.semiring.zero }
+    ensures first { Entries (T.Trellis.meaning trellis.now).states (stepped (T.Trellis.meaning trellis.now) (M.Measure.costs measure.now) A.Algebra.semiring sample (λ s. get_or first.old.weights.now s A.Algebra.semiring.zero)) first.old.weights.now first.new.weights.now }
+    ensures second { Entries (T.Trellis.meaning trellis.now).states (λ _. A.Algebra.semiring.zero) second.old.weights.now second.new.weights.now }
     ensures first_lent { first.new.weights.ghost_name ≡ first.old.weights.ghost_name }
     ensures first_len { length first.new.weights.now ≡ length first.old.weights.now }
     ensures second_lent { second.new.weights.ghost_name ≡ second.old.weights.ghost_name }
@@ -117,11 +117,11 @@ fn advance_all<T: Trellis, M: Measure, A: Algebra>(
     first: &mut Row<'_, A::Weight>,
     second: &mut Row<'_, A::Weight>,
 )
-    requires first { (meaning trellis.now).states ≤ length first.old.weights.now }
-    requires second { (meaning trellis.now).states ≤ length second.old.weights.now }
-    requires clear { (s : ℕ) → s < (meaning trellis.now).states → slice_index_or second.old.weights.now s semiring.zero ≡ semiring.zero }
-    ensures first { Entries (meaning trellis.now).states (after (meaning trellis.now) (costs measure.now) semiring (λ s. get_or first.old.weights.now s semiring.zero) samples.now) first.old.weights.now first.new.weights.now }
-    ensures second { Entries (meaning trellis.now).states (λ _. semiring.zero) second.old.weights.now second.new.weights.now }
+    requires first { (T.Trellis.meaning trellis.now).states ≤ length first.old.weights.now }
+    requires second { (T.Trellis.meaning trellis.now).states ≤ length second.old.weights.now }
+    requires clear { (s : ℕ) → s < (T.Trellis.meaning trellis.now).states → slice_index_or second.old.weights.now s A.Algebra.semiring.zero ≡ A.Algebra.semiring.zero }
+    ensures first { Entries (T.Trellis.meaning trellis.now).states (after (T.Trellis.meaning trellis.now) (M.Measure.costs measure.now) A.Algebra.semiring (λ s. get_or first.old.weights.now s A.Algebra.semiring.zero) samples.now) first.old.weights.now first.new.weights.now }
+    ensures second { Entries (T.Trellis.meaning trellis.now).states (λ _. A.Algebra.semiring.zero) second.old.weights.now second.new.weights.now }
     ensures first_lent { first.new.weights.ghost_name ≡ first.old.weights.ghost_name }
     ensures first_len { length first.new.weights.now ≡ length first.old.weights.now }
     ensures second_lent { second.new.weights.ghost_name ≡ second.old.weights.ghost_name }
@@ -143,13 +143,13 @@ fn forward_rows<T: Trellis, M: Measure, A: Algebra>(
     first: &mut Row<'_, A::Weight>,
     second: &mut Row<'_, A::Weight>,
 ) -> A::Weight
-    requires first { (meaning trellis.now).states ≤ length first.old.weights.now }
-    requires second { (meaning trellis.now).states ≤ length second.old.weights.now }
-    ensures answer { result ≡ path_sum (meaning trellis.now) (costs measure.now) semiring start end samples.now }
-    ensures any_order { AnyOrder (meaning trellis.now) (costs measure.now) semiring start end samples.now result }
-    ensures any_list { AnyList (meaning trellis.now) (costs measure.now) semiring start end samples.now result }
-    ensures first { Entries (meaning trellis.now).states (λ s. path_sum (meaning trellis.now) (costs measure.now) semiring start (Some s) samples.now) first.old.weights.now first.new.weights.now }
-    ensures second { Entries (meaning trellis.now).states (λ _. semiring.zero) second.old.weights.now second.new.weights.now }
+    requires first { (T.Trellis.meaning trellis.now).states ≤ length first.old.weights.now }
+    requires second { (T.Trellis.meaning trellis.now).states ≤ length second.old.weights.now }
+    ensures answer { result ≡ path_sum (T.Trellis.meaning trellis.now) (M.Measure.costs measure.now) A.Algebra.semiring start end samples.now }
+    ensures any_order { AnyOrder (T.Trellis.meaning trellis.now) (M.Measure.costs measure.now) A.Algebra.semiring start end samples.now result }
+    ensures any_list { AnyList (T.Trellis.meaning trellis.now) (M.Measure.costs measure.now) A.Algebra.semiring start end samples.now result }
+    ensures first { Entries (T.Trellis.meaning trellis.now).states (λ s. path_sum (T.Trellis.meaning trellis.now) (M.Measure.costs measure.now) A.Algebra.semiring start (Some s) samples.now) first.old.weights.now first.new.weights.now }
+    ensures second { Entries (T.Trellis.meaning trellis.now).states (λ _. A.Algebra.semiring.zero) second.old.weights.now second.new.weights.now }
     ensures first_lent { first.new.weights.ghost_name ≡ first.old.weights.ghost_name }
     ensures first_len { length first.new.weights.now ≡ length first.old.weights.now }
     ensures second_lent { second.new.weights.ghost_name ≡ second.old.weights.ghost_name }
@@ -174,11 +174,11 @@ pub fn forward<T: Trellis, M: Measure, A: Algebra>(
     first: &mut [A::Weight],
     second: &mut [A::Weight],
 ) -> Result<A::Weight, Refusal>
-    ensures value { result_ok result ≡ if_long_enough (meaning trellis.now) first.old second.old (path_sum (meaning trellis.now) (costs measure.now) semiring start end samples.now) }
-    ensures checked { answer result ≡ row_check (meaning trellis.now) first.old second.old }
-    ensures rows { RowsLeft (meaning trellis.now) (costs measure.now) semiring start samples.now first.old first.new second.old second.new }
-    ensures any_order { IfOk result (AnyOrder (meaning trellis.now) (costs measure.now) semiring start end samples.now) }
-    ensures any_list { IfOk result (AnyList (meaning trellis.now) (costs measure.now) semiring start end samples.now) }
+    ensures value { result_ok result ≡ if_long_enough (T.Trellis.meaning trellis.now) first.old second.old (path_sum (T.Trellis.meaning trellis.now) (M.Measure.costs measure.now) A.Algebra.semiring start end samples.now) }
+    ensures checked { answer result ≡ row_check (T.Trellis.meaning trellis.now) first.old second.old }
+    ensures rows { RowsLeft (T.Trellis.meaning trellis.now) (M.Measure.costs measure.now) A.Algebra.semiring start samples.now first.old first.new second.old second.new }
+    ensures any_order { IfOk result (AnyOrder (T.Trellis.meaning trellis.now) (M.Measure.costs measure.now) A.Algebra.semiring start end samples.now) }
+    ensures any_list { IfOk result (AnyList (T.Trellis.meaning trellis.now) (M.Measure.costs measure.now) A.Algebra.semiring start end samples.now) }
 {
     let n = trellis.states();
     if first.len() < n || second.len() < n {

@@ -50,7 +50,7 @@ impl<'a, W: Copy> Row<'a, W> {
         start: Option<usize>,
     )
         requires { n ≤ length self.old.weights.now }
-        ensures after { Entries n (opened semiring start) self.old.weights.now self.new.weights.now }
+        ensures after { Entries n (opened A.Algebra.semiring start) self.old.weights.now self.new.weights.now }
         ensures lent { self.new.weights.ghost_name ≡ self.old.weights.ghost_name }
         ensures len { length self.new.weights.now ≡ length self.old.weights.now }
     {
@@ -67,7 +67,7 @@ impl<'a, W: Copy> Row<'a, W> {
     // Adds a weight at a state.
     pub(crate) fn add<A: Algebra<Weight = W>>(&mut self, algebra: &A, state: usize, weight: W)
         requires { state < length self.old.weights.now }
-        ensures after { self.new.weights.now ≡ slice_set self.old.weights.now state (semiring.plus (slice_index_or self.old.weights.now state semiring.zero) weight) }
+        ensures after { self.new.weights.now ≡ slice_set self.old.weights.now state (A.Algebra.semiring.plus (slice_index_or self.old.weights.now state A.Algebra.semiring.zero) weight) }
         ensures lent { self.new.weights.ghost_name ≡ self.old.weights.ghost_name }
         ensures len { length self.new.weights.now ≡ length self.old.weights.now }
     {
@@ -84,7 +84,7 @@ impl<'a, W: Copy> Row<'a, W> {
         from: &Row<'_, W>,
     )
         requires { AllByRecursion (Within (length from.now.weights.now) (length self.old.weights.now)) branches.now }
-        ensures after { self.new.weights.now ≡ with_branches (costs measure.now) semiring sample (λ s. get_or from.now.weights.now s semiring.zero) self.old.weights.now branches.now }
+        ensures after { self.new.weights.now ≡ with_branches (M.Measure.costs measure.now) A.Algebra.semiring sample (λ s. get_or from.now.weights.now s A.Algebra.semiring.zero) self.old.weights.now branches.now }
         ensures lent { self.new.weights.ghost_name ≡ self.old.weights.ghost_name }
         ensures len { length self.new.weights.now ≡ length self.old.weights.now }
     {
@@ -106,7 +106,7 @@ impl<'a, W: Copy> Row<'a, W> {
         end: Option<usize>,
     ) -> W
         requires { n ≤ length self.now.weights.now }
-        ensures { result ≡ total semiring (λ s. (if permits end s then slice_index_or self.now.weights.now s semiring.zero else semiring.zero)) (below n) }
+        ensures { result ≡ total A.Algebra.semiring (λ s. (if permits end s then slice_index_or self.now.weights.now s A.Algebra.semiring.zero else A.Algebra.semiring.zero)) (below n) }
     {
         total_entries(algebra, self.weights, n, end)
     }

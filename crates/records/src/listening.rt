@@ -22,8 +22,8 @@ pub struct Listening<T: Trellis, M: Measure> {
 
 // The state that a number names, if there is a number.
 fn anchor_named<T: Trellis>(trellis: &T, number: Option<i32>) -> Result<Option<usize>, Refusal>
-    ensures value { result_ok result ≡ (if is_named (meaning trellis.now) number then Some (named (meaning trellis.now) number) else None) }
-    ensures checked { answer result ≡ (if is_named (meaning trellis.now) number then 0 else refusal_number NotAState) }
+    ensures value { result_ok result ≡ (if is_named (T.Trellis.meaning trellis.now) number then Some (named (T.Trellis.meaning trellis.now) number) else None) }
+    ensures checked { answer result ≡ (if is_named (T.Trellis.meaning trellis.now) number then 0 else refusal_number NotAState) }
 {
     match number {
         None => Ok(None),
@@ -37,8 +37,8 @@ fn both_named<T: Trellis>(
     start: Option<i32>,
     end: Option<i32>,
 ) -> Result<(Option<usize>, Option<usize>), Refusal>
-    ensures value { result_ok result ≡ both_named (meaning trellis.now) start end }
-    ensures checked { answer result ≡ named_check (meaning trellis.now) start end }
+    ensures value { result_ok result ≡ both_named (T.Trellis.meaning trellis.now) start end }
+    ensures checked { answer result ≡ named_check (T.Trellis.meaning trellis.now) start end }
 {
     let first = anchor_named(trellis, start)?;
     let last = anchor_named(trellis, end)?;

@@ -77,7 +77,7 @@ fn ask<T: Trellis, M: Measure, A: Algebra>(
     first: &mut [A::Weight],
     second: &mut [A::Weight],
 ) -> Option<Answers<A::Weight>>
-    ensures { AnswersAs (T.Trellis.meaning (trellis_of «record».now)) (M.Measure.costs (measure_of «record».now)) semiring (held_in «record».now) (is_settled «record».now) place (lent letters.old first.old second.old) (lent letters.new first.new second.new) result }
+    ensures { AnswersAs (T.Trellis.meaning (trellis_of «record».now)) (M.Measure.costs (measure_of «record».now)) A.Algebra.semiring (held_in «record».now) (is_settled «record».now) place (lent letters.old first.old second.old) (lent letters.new first.new second.new) result }
 {
     match record {
         Record::Listening(_) => None,
@@ -106,7 +106,7 @@ pub fn replay<T: Trellis, M: Measure, A: Algebra>(
     ensures measure { measure_of result.«record» ≡ measure }
     ensures settled { is_settled result.«record» ≡ settled_after (take result.made calls.now) }
     ensures held { held_in result.«record» ≡ held_after (T.Trellis.meaning trellis) (take result.made calls.now) }
-    ensures law { AnswersAs (T.Trellis.meaning trellis) (M.Measure.costs measure) semiring (held_after (T.Trellis.meaning trellis) (take result.made calls.now)) (settled_after (take result.made calls.now)) place (lent letters.old first.old second.old) (lent letters.new first.new second.new) result.answers }
+    ensures law { AnswersAs (T.Trellis.meaning trellis) (M.Measure.costs measure) A.Algebra.semiring (held_after (T.Trellis.meaning trellis) (take result.made calls.now)) (settled_after (take result.made calls.now)) place (lent letters.old first.old second.old) (lent letters.new first.new second.new) result.answers }
 {
     let made = count_allowed(calls);
     let record = run_calls(trellis, measure, &calls[..made]);

@@ -24,10 +24,10 @@ impl<T: Trellis, M: Measure> Settled<T, M> {
         first: &mut [A::Weight],
         second: &mut [A::Weight],
     ) -> Result<A::Weight, Refusal>
-        ensures value { result_ok result ≡ if_long_enough (T.Trellis.meaning self.now.work.trellis) first.old second.old (path_sum (T.Trellis.meaning self.now.work.trellis) (M.Measure.costs self.now.work.measure) semiring (held_of self.now.work.table).start (held_of self.now.work.table).end (held_of self.now.work.table).samples) }
+        ensures value { result_ok result ≡ if_long_enough (T.Trellis.meaning self.now.work.trellis) first.old second.old (path_sum (T.Trellis.meaning self.now.work.trellis) (M.Measure.costs self.now.work.measure) A.Algebra.semiring (held_of self.now.work.table).start (held_of self.now.work.table).end (held_of self.now.work.table).samples) }
         ensures checked { answer result ≡ row_check (T.Trellis.meaning self.now.work.trellis) first.old second.old }
-        ensures rows { RowsLeft (T.Trellis.meaning self.now.work.trellis) (M.Measure.costs self.now.work.measure) semiring (held_of self.now.work.table).start (held_of self.now.work.table).samples first.old first.new second.old second.new }
-        ensures law { IfOk result (AnyList (T.Trellis.meaning self.now.work.trellis) (M.Measure.costs self.now.work.measure) semiring (held_of self.now.work.table).start (held_of self.now.work.table).end (held_of self.now.work.table).samples) }
+        ensures rows { RowsLeft (T.Trellis.meaning self.now.work.trellis) (M.Measure.costs self.now.work.measure) A.Algebra.semiring (held_of self.now.work.table).start (held_of self.now.work.table).samples first.old first.new second.old second.new }
+        ensures law { IfOk result (AnyList (T.Trellis.meaning self.now.work.trellis) (M.Measure.costs self.now.work.measure) A.Algebra.semiring (held_of self.now.work.table).start (held_of self.now.work.table).end (held_of self.now.work.table).samples) }
     {
         let work = self.look();
         let table = &work.table;

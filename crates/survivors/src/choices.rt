@@ -53,13 +53,13 @@ fn advance_all<T: Trellis, M: Measure>(
     next: &mut [Option<u64>],
     choices: &mut [u8],
 )
-    requires row { (meaning trellis.now).states ≤ length row.old }
-    requires next { (meaning trellis.now).states ≤ length next.old }
+    requires row { (T.Trellis.meaning trellis.now).states ≤ length row.old }
+    requires next { (T.Trellis.meaning trellis.now).states ≤ length next.old }
     requires few { length samples.now ≤ most_samples }
     requires room { length samples.now * most_states ≤ length choices.old }
     requires zeros { Zeros choices.old }
-    ensures row { Costed (meaning trellis.now) (costs measure.now) start samples.now row.new }
-    ensures table { Tabled (meaning trellis.now) (costs measure.now) start samples.now (length samples.now) choices.new }
+    ensures row { Costed (T.Trellis.meaning trellis.now) (M.Measure.costs measure.now) start samples.now row.new }
+    ensures table { Tabled (T.Trellis.meaning trellis.now) (M.Measure.costs measure.now) start samples.now (length samples.now) choices.new }
     ensures rest { (i : ℕ) → length samples.now * most_states ≤ i → slice_index choices.new i ≡ 0 }
 {
     let n = trellis.states();
@@ -98,8 +98,8 @@ pub fn choose<T: Trellis, M: Measure>(
     start: Option<usize>,
     choices: &mut [u8; TABLE_SIZE],
 ) -> [Option<u64>; MOST_STATES]
-    ensures table { TableOf (meaning trellis.now) (costs measure.now) start (take most_samples samples.now) choices.new }
-    ensures row { CostsOf (meaning trellis.now) (costs measure.now) start (take most_samples samples.now) result }
+    ensures table { TableOf (T.Trellis.meaning trellis.now) (M.Measure.costs measure.now) start (take most_samples samples.now) choices.new }
+    ensures row { CostsOf (T.Trellis.meaning trellis.now) (M.Measure.costs measure.now) start (take most_samples samples.now) result }
 {
     clear_bytes(choices);
     let mut row = [None; MOST_STATES];

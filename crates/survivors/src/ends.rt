@@ -49,7 +49,7 @@ pub fn ending<T: Trellis>(
     row: &[Option<u64>; MOST_STATES],
     end: Option<usize>,
 ) -> Option<Ending>
-    ensures { Ends (meaning trellis.now) end row.now result }
+    ensures { Ends (T.Trellis.meaning trellis.now) end row.now result }
 {
     let (cost, last) = cheapest(row, trellis.states(), end)?;
     Some(Ending { last, cost })

@@ -71,9 +71,9 @@ fn extend<M: Measure>(
     requires sounds { Sounds (2 ^ 61) from.now }
     requires clear { (k : ℕ) → k < most_states → slice_index_or row.old k past ≡ nowhere }
     requires zeros { Zeros bytes.old }
-    ensures kept { Kept most_states (best_of (costs measure.now) sample (reached_at (costs_in from.now)) branches.now) (costs_in row.new) bytes.new }
-    ensures tied { Brought cheapest_with_count tied (costs measure.now) sample from.now branches.now row.new }
-    ensures two { Brought two_cheapest two (costs measure.now) sample from.now branches.now row.new }
+    ensures kept { Kept most_states (best_of (M.Measure.costs measure.now) sample (reached_at (costs_in from.now)) branches.now) (costs_in row.new) bytes.new }
+    ensures tied { Brought cheapest_with_count tied (M.Measure.costs measure.now) sample from.now branches.now row.new }
+    ensures two { Brought two_cheapest two (M.Measure.costs measure.now) sample from.now branches.now row.new }
     ensures sounds { (c : ℕ) → Sounds c from.now → Sounds (c + most_cost) row.new }
 {
     for branch in branches {
@@ -97,14 +97,14 @@ pub(crate) fn advance_ranks<T: Trellis, M: Measure>(
     row: &mut [Rank; MOST_STATES],
     bytes: &mut [u8],
 )
-    requires branches { branches.now ≡ branches_of (meaning trellis.now) }
+    requires branches { branches.now ≡ branches_of (T.Trellis.meaning trellis.now) }
     requires bytes { most_states ≤ length bytes.old }
     requires sounds { Sounds (2 ^ 61) from.now }
     requires clear { (k : ℕ) → k < most_states → slice_index_or clear.now k past ≡ nowhere }
     requires zeros { Zeros bytes.old }
-    ensures kept { Kept most_states (best (meaning trellis.now) (costs measure.now) sample (reached_at (costs_in from.now))) (costs_in row.new) bytes.new }
-    ensures tied { Brought cheapest_with_count tied (costs measure.now) sample from.now (branches_of (meaning trellis.now)) row.new }
-    ensures two { Brought two_cheapest two (costs measure.now) sample from.now (branches_of (meaning trellis.now)) row.new }
+    ensures kept { Kept most_states (best (T.Trellis.meaning trellis.now) (M.Measure.costs measure.now) sample (reached_at (costs_in from.now))) (costs_in row.new) bytes.new }
+    ensures tied { Brought cheapest_with_count tied (M.Measure.costs measure.now) sample from.now (branches_of (T.Trellis.meaning trellis.now)) row.new }
+    ensures two { Brought two_cheapest two (M.Measure.costs measure.now) sample from.now (branches_of (T.Trellis.meaning trellis.now)) row.new }
     ensures sounds { (c : ℕ) → Sounds c from.now → Sounds (c + most_cost) row.new }
 {
     *row = *clear;

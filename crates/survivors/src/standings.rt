@@ -57,12 +57,12 @@ fn rank_all<T: Trellis, M: Measure>(
     requires room { length samples.now * most_states ≤ length choices.old }
     requires zeros { Zeros choices.old }
     ensures len { length result ≡ most_states }
-    ensures row { Costed (meaning trellis.now) (costs measure.now) start samples.now (costs_in result) }
-    ensures tied { Summed cheapest_with_count tied (meaning trellis.now) (costs measure.now) start samples.now result }
-    ensures two { Summed two_cheapest two (meaning trellis.now) (costs measure.now) start samples.now result }
+    ensures row { Costed (T.Trellis.meaning trellis.now) (M.Measure.costs measure.now) start samples.now (costs_in result) }
+    ensures tied { Summed cheapest_with_count tied (T.Trellis.meaning trellis.now) (M.Measure.costs measure.now) start samples.now result }
+    ensures two { Summed two_cheapest two (T.Trellis.meaning trellis.now) (M.Measure.costs measure.now) start samples.now result }
     ensures sounds { Sounds (2 ^ 61) result }
     ensures range { AllByRecursion InRange samples.now }
-    ensures table { Tabled (meaning trellis.now) (costs measure.now) start samples.now (length samples.now) choices.new }
+    ensures table { Tabled (T.Trellis.meaning trellis.now) (M.Measure.costs measure.now) start samples.now (length samples.now) choices.new }
     ensures rest { (i : ℕ) → length samples.now * most_states ≤ i → slice_index choices.new i ≡ 0 }
 {
     let list = list_branches(trellis);
@@ -128,8 +128,8 @@ pub fn survey<T: Trellis, M: Measure>(
     end: Option<usize>,
     choices: &mut [u8; TABLE_SIZE],
 ) -> Option<Standing>
-    ensures table { TableOf (meaning trellis.now) (costs measure.now) start (take most_samples samples.now) choices.new }
-    ensures standing { StandsAt (meaning trellis.now) (costs measure.now) start end (take most_samples samples.now) result }
+    ensures table { TableOf (T.Trellis.meaning trellis.now) (M.Measure.costs measure.now) start (take most_samples samples.now) choices.new }
+    ensures standing { StandsAt (T.Trellis.meaning trellis.now) (M.Measure.costs measure.now) start end (take most_samples samples.now) result }
 {
     clear_bytes(choices);
     let row = rank_all(trellis, measure, counted(samples), start, choices);

@@ -45,8 +45,8 @@ fn extend_branch<M: Measure>(
     requires row { StaysIn (length row.old) branch }
     requires bytes { StaysIn (length bytes.old) branch }
     requires small { from < 2 ^ 63 }
-    ensures row { row.new ≡ brought_costs (costs measure.now) sample from branch row.old }
-    ensures bytes { bytes.new ≡ brought_bytes (costs measure.now) sample from byte branch row.old bytes.old }
+    ensures row { row.new ≡ brought_costs (M.Measure.costs measure.now) sample from branch row.old }
+    ensures bytes { bytes.new ≡ brought_bytes (M.Measure.costs measure.now) sample from byte branch row.old bytes.old }
     ensures low { (n b : ℕ) → from ≤ b → Low n (b + most_cost) row.old → Low n (b + most_cost) row.new }
 {
     if let Some((next, label)) = branch {
@@ -70,14 +70,14 @@ fn extend_state<T: Trellis, M: Measure>(
     row: &mut [Option<u64>],
     bytes: &mut [u8],
 )
-    requires state { state < (meaning trellis.now).states }
-    requires from { (meaning trellis.now).states ≤ length from.now }
-    requires row { (meaning trellis.now).states ≤ length row.old }
-    requires bytes { (meaning trellis.now).states ≤ length bytes.old }
-    requires low { Low (meaning trellis.now).states (2 ^ 62) from.now }
-    requires kept { Kept (meaning trellis.now).states (so_far (meaning trellis.now) (costs measure.now) sample from.now (state * 4)) row.old bytes.old }
-    ensures kept { Kept (meaning trellis.now).states (so_far (meaning trellis.now) (costs measure.now) sample from.now ((state + 1) * 4)) row.new bytes.new }
-    ensures rising { Rising (meaning trellis.now).states from.now row.old → Rising (meaning trellis.now).states from.now row.new }
+    requires state { state < (T.Trellis.meaning trellis.now).states }
+    requires from { (T.Trellis.meaning trellis.now).states ≤ length from.now }
+    requires row { (T.Trellis.meaning trellis.now).states ≤ length row.old }
+    requires bytes { (T.Trellis.meaning trellis.now).states ≤ length bytes.old }
+    requires low { Low (T.Trellis.meaning trellis.now).states (2 ^ 62) from.now }
+    requires kept { Kept (T.Trellis.meaning trellis.now).states (so_far (T.Trellis.meaning trellis.now) (M.Measure.costs measure.now) sample from.now (state * 4)) row.old bytes.old }
+    ensures kept { Kept (T.Trellis.meaning trellis.now).states (so_far (T.Trellis.meaning trellis.now) (M.Measure.costs measure.now) sample from.now ((state + 1) * 4)) row.new bytes.new }
+    ensures rising { Rising (T.Trellis.meaning trellis.now).states from.now row.old → Rising (T.Trellis.meaning trellis.now).states from.now row.new }
 {
     if let Some(cost) = from[state] {
         for letter in 0..trellis.letters() {
@@ -107,13 +107,13 @@ pub(crate) fn advance<T: Trellis, M: Measure>(
     row: &mut [Option<u64>],
     bytes: &mut [u8],
 )
-    requires from { (meaning trellis.now).states ≤ length from.now }
-    requires row { (meaning trellis.now).states ≤ length row.old }
-    requires bytes { (meaning trellis.now).states ≤ length bytes.old }
-    requires low { Low (meaning trellis.now).states (2 ^ 62) from.now }
+    requires from { (T.Trellis.meaning trellis.now).states ≤ length from.now }
+    requires row { (T.Trellis.meaning trellis.now).states ≤ length row.old }
+    requires bytes { (T.Trellis.meaning trellis.now).states ≤ length bytes.old }
+    requires low { Low (T.Trellis.meaning trellis.now).states (2 ^ 62) from.now }
     requires zeros { Zeros bytes.old }
-    ensures kept { Kept (meaning trellis.now).states (best (meaning trellis.now) (costs measure.now) sample (held from.now)) row.new bytes.new }
-    ensures rising { Rising (meaning trellis.now).states from.now row.new }
+    ensures kept { Kept (T.Trellis.meaning trellis.now).states (best (T.Trellis.meaning trellis.now) (M.Measure.costs measure.now) sample (held from.now)) row.new bytes.new }
+    ensures rising { Rising (T.Trellis.meaning trellis.now).states from.now row.new }
 {
     let n = trellis.states();
     clear_costs(row, n);

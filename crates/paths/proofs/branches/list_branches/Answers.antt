@@ -6,10 +6,10 @@ use Rattle.paths.proofs.branches.list_branches.Goals as goal
 pub loop-state-preserved : goal.loop-state-preserved
 loop-state-preserved g c =
     let d = g.T.Trellis.meaning c.args.trellis.now in (
-      listed_more (branches_from d) [] (take c.loop-state.count c.loop-state.branches) (take c.list-state-count.result c.list-state-count.new.list) c.loop-state.state
-          c.loop-state.invariant.0 c.list-state-count.ensures.listed,
-      omega (arith, c.list-state-count.ensures.few),
-      omega (arith, c.list-state-count.ensures.few),
+      listed_more (branches_from d) [] (take c.loop-state.count c.loop-state.branches) (take c.list_state-count.result c.list_state-count.new.list) c.loop-state.state
+          c.loop-state.invariant.0 c.list_state-count.ensures.listed,
+      omega (arith, c.list_state-count.ensures.few),
+      omega (arith, c.list_state-count.ensures.few),
     )
 
 pub returns : goal.returns

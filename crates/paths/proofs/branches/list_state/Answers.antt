@@ -5,8 +5,8 @@ use Rattle.paths.proofs.Rowing.{stays_more}
 use Rattle.paths.proofs.Branching.{listed_more, state_all}
 use Rattle.paths.proofs.branches.list_state.Goals as goal
 
-pub list-branch-n-requires : goal.list-branch-n-requires
-list-branch-n-requires g c =
+pub list_branch-n-requires : goal.list_branch-n-requires
+list_branch-n-requires g c =
     let d = g.T.Trellis.meaning c.args.trellis.now in
     let lawful = g.met.T.Trellis.lawful c.args.trellis.now in
     let few : d.states ≤ most_states = lawful.few_states in
@@ -22,8 +22,8 @@ pub loop-letter-preserved : goal.loop-letter-preserved
 loop-letter-preserved g c =
     let d = g.T.Trellis.meaning c.args.trellis.now in
     let s = c.args.state in (
-      listed_more (λ a. listed s a (d.branch s a)) (take c.args.count c.args.list.now) (take c.loop-letter.n c.loop-letter.list) (take c.list-branch-n.result c.list-branch-n.new.list) c.loop-letter.letter
-          c.loop-letter.invariant.0 (c.list-branch-n.ensures.listed ∙ ap (λ b. take c.loop-letter.n c.loop-letter.list ++ listed s c.loop-letter.letter b) c.branch-branch.ensures),
+      listed_more (λ a. listed s a (d.branch s a)) (take c.args.count c.args.list.now) (take c.loop-letter.n c.loop-letter.list) (take c.list_branch-n.result c.list_branch-n.new.list) c.loop-letter.letter
+          c.loop-letter.invariant.0 (c.list_branch-n.ensures.listed ∙ ap (λ b. take c.loop-letter.n c.loop-letter.list ++ listed s c.loop-letter.letter b) c.branch-branch.ensures),
       omega (arith, c.loop-letter.invariant.1),
     )
 

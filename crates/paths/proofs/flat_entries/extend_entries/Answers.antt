@@ -12,8 +12,8 @@ use Rattle.paths.proofs.flat_entries.extend_entries.Goals as goal
 abbrev none : ListedBranch
 none = record { from = 0; next = 0; byte = 0; label = pos 0 }
 
-pub offset-bounds-from-branch : goal.offset-bounds-from-branch
-offset-bounds-from-branch g c =
+pub offset_bounds-from-branch : goal.offset_bounds-from-branch
+offset_bounds-from-branch g c =
     let i = c.loop-branch.branch-index in
     let w = All-get_or (Within (length c.args.from.now) (length c.args.row.now)) c.args.branches.now i none c.loop-branch-test.true c.requires in
     let h : (get_or c.args.branches.now i none).from < length c.args.from.now = w.0 in search rules
@@ -59,15 +59,15 @@ returns g c =
     subst (λ z. c.loop-branch.row ≡ with_branches m r z (λ s. get_or c.args.from.now s r.zero) c.args.row.now c.args.branches.now) (to_z-of_z w16 c.args.sample c.ranges.sample)
     (c.loop-branch.invariant ∙ ap (with_branches m r (to_z w16 (of_z w16 c.args.sample)) (λ s. get_or c.args.from.now s r.zero) c.args.row.now) (take_all _ _ c.loop-branch-test.false))
 
-pub offset-bounds-row-next : goal.offset-bounds-row-next
-offset-bounds-row-next g c =
+pub offset_bounds-row-next : goal.offset_bounds-row-next
+offset_bounds-row-next g c =
     let i = c.loop-branch.branch-index in
     let w = All-get_or (Within (length c.args.from.now) (length c.args.row.now)) c.args.branches.now i none c.loop-branch-test.true c.requires in
     let l : (get_or c.args.branches.now i none).next < length c.args.row.now = w.1 in
     let h : (get_or c.args.branches.now i none).next < length c.loop-branch.row = omega (arith, c.loop-branch.auto.row) in search rules
 
-pub offset-bounds-row-next-in-loop-branch : goal.offset-bounds-row-next-in-loop-branch
-offset-bounds-row-next-in-loop-branch g c =
+pub offset_bounds-row-next-in-loop-branch : goal.offset_bounds-row-next-in-loop-branch
+offset_bounds-row-next-in-loop-branch g c =
     let i = c.loop-branch.branch-index in
     let w = All-get_or (Within (length c.args.from.now) (length c.args.row.now)) c.args.branches.now i none c.loop-branch-test.true c.requires in
     let l : (get_or c.args.branches.now i none).next < length c.args.row.now = w.1 in

@@ -23,7 +23,7 @@ loop-i-preserved g c =
     let i = c.loop-i.i in
     let us = c.args.first.now.weights.now in
     let us₁ = c.loop-i.first.weights.now in
-    let us₂ = c.advance-two.new.first.weights.now in
+    let us₂ = c.advance_two.new.first.weights.now in
     let x = get_or xs i (pos 0) in
     let y = get_or xs (i + 1) (pos 0) in
     let lt : i + 1 < length xs = c.loop-i-test.true in
@@ -32,11 +32,11 @@ loop-i-preserved g c =
       run_more_two r g.met.A.Algebra.lawful m d (g.met.T.Trellis.lawful c.args.trellis.now) (λ s. get_or us s r.zero) xs i x y us us₁ us₂ lt
           (get_or_default xs i (pos 0) x (omega arith)) (get_or_default xs (i + 1) (pos 0) y lt) c.loop-i.invariant.0
           (subst (λ z. Entries d.states (after d m r (λ s. get_or us₁ s r.zero) (z ∷ y ∷ [])) us₁ us₂) (to_z-of_z w16 x fx)
-          (subst (λ z. Entries d.states (after d m r (λ s. get_or us₁ s r.zero) (to_z w16 (of_z w16 x) ∷ z ∷ [])) us₁ us₂) (to_z-of_z w16 y fy) c.advance-two.ensures.first)),
-      c.advance-two.ensures.second ∙ c.loop-i.invariant.1,
+          (subst (λ z. Entries d.states (after d m r (λ s. get_or us₁ s r.zero) (to_z w16 (of_z w16 x) ∷ z ∷ [])) us₁ us₂) (to_z-of_z w16 y fy) c.advance_two.ensures.first)),
+      c.advance_two.ensures.second ∙ c.loop-i.invariant.1,
       omega arith,
-      c.advance-two.ensures.first-lent ∙ c.loop-i.invariant.3,
-      c.advance-two.ensures.first-len ∙ c.loop-i.invariant.4,
-      c.advance-two.ensures.second-lent ∙ c.loop-i.invariant.5,
-      c.advance-two.ensures.second-len ∙ c.loop-i.invariant.6,
+      c.advance_two.ensures.first_lent ∙ c.loop-i.invariant.3,
+      c.advance_two.ensures.first_len ∙ c.loop-i.invariant.4,
+      c.advance_two.ensures.second_lent ∙ c.loop-i.invariant.5,
+      c.advance_two.ensures.second_len ∙ c.loop-i.invariant.6,
     )

@@ -13,10 +13,10 @@ returns-then-samples-eq0 g c =
     record {
       first = run_empty r g.met.A.Algebra.lawful m d (g.met.T.Trellis.lawful c.args.trellis.now) c.args.samples.now c.args.first.now.weights.now (omega arith) c.requires.first;
       second = refl;
-      first-lent = refl;
-      first-len = refl;
-      second-lent = refl;
-      second-len = refl;
+      first_lent = refl;
+      first_len = refl;
+      second_lent = refl;
+      second_len = refl;
     }
 
 pub returns : goal.returns
@@ -37,8 +37,8 @@ returns g c =
           (subst (λ z. Entries d.states (stepped d m r z (λ s. get_or us s r.zero)) vs vs₁) (to_z-of_z w16 x f) c.advance.ensures.second)
           (subst (λ j. Copied j vs₁ us us₁) c.states.ensures c.copy.ensures.after);
       second = c.advance.ensures.second.rest;
-      first-lent = c.copy.ensures.lent;
-      first-len = c.copy.ensures.len;
-      second-lent = c.advance.ensures.lent;
-      second-len = c.advance.ensures.len;
+      first_lent = c.copy.ensures.lent;
+      first_len = c.copy.ensures.len;
+      second_lent = c.advance.ensures.lent;
+      second_len = c.advance.ensures.len;
     }

@@ -23,8 +23,8 @@ returns g c =
           (subst (λ z. Entries d.states (stepped d m r z (λ s. get_or us s r.zero)) vs vs₁) (to_z-of_z w16 x fx) c.advance.ensures.second)
           (subst (λ z. Entries d.states (stepped d m r z (λ s. get_or vs₁ s r.zero)) us us₁) (to_z-of_z w16 y fy) c.advance-2.ensures.second);
       second = c.advance.ensures.second.rest;
-      first-lent = c.advance-2.ensures.lent;
-      first-len = c.advance-2.ensures.len;
-      second-lent = c.advance.ensures.lent;
-      second-len = c.advance.ensures.len;
+      first_lent = c.advance-2.ensures.lent;
+      first_len = c.advance-2.ensures.len;
+      second_lent = c.advance.ensures.lent;
+      second_len = c.advance.ensures.len;
     }

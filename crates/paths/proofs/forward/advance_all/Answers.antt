@@ -29,10 +29,10 @@ loop-sample-preserved g c =
           c.loop-sample-test.true (get_or_default c.args.samples.now c.loop-sample.sample-index (pos 0) z c.loop-sample-test.true) c.loop-sample.invariant.0
           (subst (λ q. Entries d.states (stepped d m r q (λ s. get_or c.loop-sample.first.weights.now s r.zero)) c.loop-sample.first.weights.now c.advance.new.first.weights.now) (to_z-of_z w16 z f) c.advance.ensures.first),
       over d.states (λ s. r.zero) (λ s. r.zero) c.args.second.now.weights.now c.loop-sample.second.weights.now c.advance.new.second.weights.now c.loop-sample.invariant.1 c.advance.ensures.second,
-      c.advance.ensures.first-lent ∙ c.loop-sample.invariant.2,
-      c.advance.ensures.first-len ∙ c.loop-sample.invariant.3,
-      c.advance.ensures.second-lent ∙ c.loop-sample.invariant.4,
-      c.advance.ensures.second-len ∙ c.loop-sample.invariant.5,
+      c.advance.ensures.first_lent ∙ c.loop-sample.invariant.2,
+      c.advance.ensures.first_len ∙ c.loop-sample.invariant.3,
+      c.advance.ensures.second_lent ∙ c.loop-sample.invariant.4,
+      c.advance.ensures.second_len ∙ c.loop-sample.invariant.5,
     )
 
 pub returns : goal.returns
@@ -44,8 +44,8 @@ returns g c =
     record {
       first = subst (λ q. Entries d.states (after d m r (λ s. get_or us s r.zero) q) us c.loop-sample.first.weights.now) (take_all _ _ c.loop-sample-test.false) c.loop-sample.invariant.0;
       second = c.loop-sample.invariant.1;
-      first-lent = c.loop-sample.invariant.2;
-      first-len = c.loop-sample.invariant.3;
-      second-lent = c.loop-sample.invariant.4;
-      second-len = c.loop-sample.invariant.5;
+      first_lent = c.loop-sample.invariant.2;
+      first_len = c.loop-sample.invariant.3;
+      second_lent = c.loop-sample.invariant.4;
+      second_len = c.loop-sample.invariant.5;
     }

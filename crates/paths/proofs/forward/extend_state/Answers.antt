@@ -12,8 +12,8 @@ loop-letter-init g c =
     let r = g.A.Algebra.semiring in
     (gathered_none r g.met.A.Algebra.lawful d.states (λ k a. brings_into (g.M.Measure.costs c.args.measure.now) r c.args.sample k (d.branch c.args.state a) c.args.weight) c.args.row.now.weights.now c.requires, refl, refl)
 
-pub extend-branch-requires : goal.extend-branch-requires
-extend-branch-requires g c =
+pub extend_branch-requires : goal.extend_branch-requires
+extend_branch-requires g c =
     let d = g.T.Trellis.meaning c.args.trellis.now in
     let le : d.states ≤ length c.loop-letter.row.weights.now = omega (arith, c.loop-letter.invariant.2) in
     subst (λ b. StaysIn (length c.loop-letter.row.weights.now) b) (sym c.branch-branch.ensures)
@@ -27,10 +27,10 @@ loop-letter-preserved g c =
     let x = to_z w16 (of_z w16 c.args.sample) in
     let le : d.states ≤ length c.loop-letter.row.weights.now = omega (arith, c.loop-letter.invariant.2) in (
       letter_more r g.met.A.Algebra.lawful m d (g.met.T.Trellis.lawful c.args.trellis.now) x c.args.state c.loop-letter.letter c.args.weight
-          c.args.row.now.weights.now c.loop-letter.row.weights.now c.extend-branch.new.row.weights.now le c.loop-letter.invariant.0
-          (c.extend-branch.ensures.after ∙ ap (λ b. with_branch m r x b c.args.weight c.loop-letter.row.weights.now) c.branch-branch.ensures),
-      c.extend-branch.ensures.lent ∙ c.loop-letter.invariant.1,
-      c.extend-branch.ensures.len ∙ c.loop-letter.invariant.2,
+          c.args.row.now.weights.now c.loop-letter.row.weights.now c.extend_branch.new.row.weights.now le c.loop-letter.invariant.0
+          (c.extend_branch.ensures.after ∙ ap (λ b. with_branch m r x b c.args.weight c.loop-letter.row.weights.now) c.branch-branch.ensures),
+      c.extend_branch.ensures.lent ∙ c.loop-letter.invariant.1,
+      c.extend_branch.ensures.len ∙ c.loop-letter.invariant.2,
     )
 
 pub returns : goal.returns

@@ -21,12 +21,12 @@ loop-state-preserved g c =
     let from = c.args.from.now.weights.now in
     let lt : c.loop-state.state < length c.args.from.now.weights.now = omega arith in (
       gathered_more r g.met.A.Algebra.lawful d.states c.loop-state.state (λ k s. from_state d m r x s (get_or from s r.zero) k)
-          c.args.row.now.weights.now c.loop-state.row.weights.now c.extend-state.new.row.weights.now c.loop-state.invariant.0
-          (subst (λ v. Entries d.states (λ k. r.plus (get_or c.loop-state.row.weights.now k r.zero) (from_state d m r x c.loop-state.state v k)) c.loop-state.row.weights.now c.extend-state.new.row.weights.now)
+          c.args.row.now.weights.now c.loop-state.row.weights.now c.extend_state.new.row.weights.now c.loop-state.invariant.0
+          (subst (λ v. Entries d.states (λ k. r.plus (get_or c.loop-state.row.weights.now k r.zero) (from_state d m r x c.loop-state.state v k)) c.loop-state.row.weights.now c.extend_state.new.row.weights.now)
           (c.get.ensures ∙ get_or_default from c.loop-state.state c.get.result r.zero lt)
-          c.extend-state.ensures.after),
-      c.extend-state.ensures.lent ∙ c.loop-state.invariant.1,
-      c.extend-state.ensures.len ∙ c.loop-state.invariant.2,
+          c.extend_state.ensures.after),
+      c.extend_state.ensures.lent ∙ c.loop-state.invariant.1,
+      c.extend_state.ensures.len ∙ c.loop-state.invariant.2,
     )
 
 pub returns : goal.returns

@@ -19,23 +19,23 @@ returns g c =
     let vs = c.args.second.now.weights.now in
     let xs = c.args.samples.now in
     let us₁ = c.open.new.self.weights.now in
-    let us₂ = c.advance-all.new.first.weights.now in
+    let us₂ = c.advance_all.new.first.weights.now in
     let vs₁ = c.clear.new.self.weights.now in
     let opens : Entries d.states (opened r c.args.start) us us₁ =
     subst (λ j. Entries j (opened r c.args.start) us us₁) c.states-n.ensures c.open.ensures.after in
     let sums : c.total.result ≡ path_sum d m r c.args.start c.args.end xs =
     c.total.ensures
     ∙ ap (λ j. total r (λ s. cond (permits c.args.end s) (get_or us₂ s r.zero) r.zero) (below j)) c.states-n.ensures
-    ∙ answered r laws m d lawful c.args.start xs us us₁ us₂ opens c.advance-all.ensures.first c.args.end in
+    ∙ answered r laws m d lawful c.args.start xs us us₁ us₂ opens c.advance_all.ensures.first c.args.end in
     record {
       answer = sums;
       any_order = λ ps h. sums ∙ any_order d m r laws c.args.start c.args.end xs ps h;
       any_list = λ ps h. sums ∙ any_list d m r laws c.args.start c.args.end xs lawful ps h;
-      first = left_first r laws m d lawful c.args.start xs us us₁ us₂ opens c.advance-all.ensures.first;
-      second = over d.states (λ s. r.zero) (λ s. r.zero) vs vs₁ c.advance-all.new.second.weights.now
-          (cleared c.states-n.result d.states c.zero.result r.zero vs vs₁ c.states-n.ensures c.zero.ensures c.clear.ensures.after) c.advance-all.ensures.second;
-      first-lent = c.advance-all.ensures.first-lent ∙ c.open.ensures.lent;
-      first-len = c.advance-all.ensures.first-len ∙ c.open.ensures.len;
-      second-lent = c.advance-all.ensures.second-lent ∙ c.clear.ensures.lent;
-      second-len = c.advance-all.ensures.second-len ∙ c.clear.ensures.len;
+      first = left_first r laws m d lawful c.args.start xs us us₁ us₂ opens c.advance_all.ensures.first;
+      second = over d.states (λ s. r.zero) (λ s. r.zero) vs vs₁ c.advance_all.new.second.weights.now
+          (cleared c.states-n.result d.states c.zero.result r.zero vs vs₁ c.states-n.ensures c.zero.ensures c.clear.ensures.after) c.advance_all.ensures.second;
+      first_lent = c.advance_all.ensures.first_lent ∙ c.open.ensures.lent;
+      first_len = c.advance_all.ensures.first_len ∙ c.open.ensures.len;
+      second_lent = c.advance_all.ensures.second_lent ∙ c.clear.ensures.lent;
+      second_len = c.advance_all.ensures.second_len ∙ c.clear.ensures.len;
     }

@@ -6,8 +6,8 @@ returns c = record {
   boolean = boolean_says;
   counting = counting_says;
   cheapest = cheapest_says;
-  cheapest-with-count = cheapest_with_count_says;
-  two-cheapest = two_cheapest_says;
+  cheapest_with_count = cheapest_with_count_says;
+  two_cheapest = two_cheapest_says;
   first = first_says;
   first_below = first_says_below_inf;
 }

@@ -8,7 +8,7 @@ use Rattle.survivors.specs.Ranks.{tied, two, joined_rank, Sound, past}
 use Rattle.survivors.proofs.Ranking.{tied_joined, two_joined, sound_joined}
 use Rattle.survivors.proofs.Surveying.{gather_taken, gather_left}
 use Rattle.survivors.proofs.standings.gather.Goals as goal
-use Rattle.survivors.proofs.standings.gather.Goals.{then-is-permitted, else-is-permitted}
+use Rattle.survivors.proofs.standings.gather.Goals.{then-is_permitted, else-is_permitted}
 
 pub loop-state-preserved : goal.loop-state-preserved
 loop-state-preserved c =
@@ -21,17 +21,17 @@ loop-state-preserved c =
     let room : v.cost < unreached → v.cost + 0 < unreached = λ l. omega arith in
     let room₂ : v.second < unreached → v.second + 0 < unreached = λ l. omega arith in
     let more = joined_rank all v 0 in
-    elim c.if-is-permitted.branch [
-      | then-is-permitted w ↦
-          let e : c.if-is-permitted.all ≡ more = w.all-is ∙ w.join.ensures.rank in
-          let p = sym c.is-permitted.ensures ∙ w.if-is-permitted.true in (
+    elim c.if-is_permitted.branch [
+      | then-is_permitted w ↦
+          let e : c.if-is_permitted.all ≡ more = w.all-is ∙ w.join.ensures.rank in
+          let p = sym c.is_permitted.ensures ∙ w.if-is_permitted.true in (
             ap tied e ∙ gather_taken cheapest_with_count cost_count_laws tied c.args.end row s all c.loop-state.invariant.0 more p refl (tied_joined all v 0 (omega arith) sa.sorted sv.sorted room room₂),
             ap two e ∙ gather_taken two_cheapest two_laws two c.args.end row s all c.loop-state.invariant.1 more p refl (two_joined all v 0 (omega arith) sa.sorted sv.sorted room room₂),
             subst (Sound (2 ^ 62)) (sym e) (sound_joined all v 0 (2 ^ 62) (2 ^ 61) sv sa (omega arith)),
           )
-      | else-is-permitted w ↦
-          let e : c.if-is-permitted.all ≡ all = w.all-is in
-          let p = sym c.is-permitted.ensures ∙ w.if-is-permitted.false in (
+      | else-is_permitted w ↦
+          let e : c.if-is_permitted.all ≡ all = w.all-is in
+          let p = sym c.is_permitted.ensures ∙ w.if-is_permitted.false in (
             ap tied e ∙ gather_left cheapest_with_count cost_count_laws tied c.args.end row s all c.loop-state.invariant.0 p,
             ap two e ∙ gather_left two_cheapest two_laws two c.args.end row s all c.loop-state.invariant.1 p,
             subst (Sound (2 ^ 62)) (sym e) sa,

@@ -6,7 +6,7 @@ use Rattle.survivors.proofs.Rowing.{states_all}
 use Rattle.survivors.proofs.step.advance.Goals as goal
 
 pub loop-state-preserved : goal.loop-state-preserved
-loop-state-preserved g c = (c.extend-state.ensures.kept, c.extend-state.ensures.rising c.loop-state.invariant.1)
+loop-state-preserved g c = (c.extend_state.ensures.kept, c.extend_state.ensures.rising c.loop-state.invariant.1)
 
 pub returns : goal.returns
 returns g c =

@@ -7,8 +7,8 @@ use Rattle.survivors.proofs.Scans.{is_none}
 use Rattle.survivors.proofs.Rowing.{letter_more, letters_all, state_none}
 use Rattle.survivors.proofs.step.extend_state.Goals as goal
 
-pub extend-branch-requires : goal.extend-branch-requires
-extend-branch-requires g c =
+pub extend_branch-requires : goal.extend_branch-requires
+extend_branch-requires g c =
     let n = g.T.Trellis.meaning c.args.trellis.now in
     let inside = (g.met.T.Trellis.lawful c.args.trellis.now).stays c.args.state c.loop-letter.letter in
     let lr : n.states ≤ length c.loop-letter.row = omega arith in
@@ -28,12 +28,12 @@ loop-letter-preserved g c =
     let lb : n.states ≤ length c.loop-letter.bytes = omega arith in
     let lawful = g.met.T.Trellis.lawful c.args.trellis.now in
     let l4 : c.loop-letter.letter < 4 = omega (arith, lawful.few_letters, c.letters-letter-end.ensures) in (
-      letter_more n p y c.args.from.now c.args.state c.loop-letter.letter c.in-Some.cost c.loop-letter.row c.extend-branch.new.row c.loop-letter.bytes c.extend-branch.new.bytes l4 c.in-Some.is
+      letter_more n p y c.args.from.now c.args.state c.loop-letter.letter c.in-Some.cost c.loop-letter.row c.extend_branch.new.row c.loop-letter.bytes c.extend_branch.new.bytes l4 c.in-Some.is
           (lawful.stays c.args.state c.loop-letter.letter) lr lb c.loop-letter.invariant.0
-          (c.extend-branch.ensures.row ∙ ap (λ e. brought_costs p y c.in-Some.cost e c.loop-letter.row) c.branch-branch.ensures)
-          (c.extend-branch.ensures.bytes ∙ ap (λ i. brought_bytes p y c.in-Some.cost i c.branch-branch.result c.loop-letter.row c.loop-letter.bytes) c.branch-byte-byte.ensures
+          (c.extend_branch.ensures.row ∙ ap (λ e. brought_costs p y c.in-Some.cost e c.loop-letter.row) c.branch-branch.ensures)
+          (c.extend_branch.ensures.bytes ∙ ap (λ i. brought_bytes p y c.in-Some.cost i c.branch-branch.result c.loop-letter.row c.loop-letter.bytes) c.branch_byte-byte.ensures
           ∙ ap (λ e. brought_bytes p y c.in-Some.cost (c.args.state * 4 + c.loop-letter.letter) e c.loop-letter.row c.loop-letter.bytes) c.branch-branch.ensures),
-      λ rise b lo. c.extend-branch.ensures.low n.states b (lo c.args.state c.in-Some.cost c.requires.state c.in-Some.is) (c.loop-letter.invariant.1 rise b lo),
+      λ rise b lo. c.extend_branch.ensures.low n.states b (lo c.args.state c.in-Some.cost c.requires.state c.in-Some.is) (c.loop-letter.invariant.1 rise b lo),
     )
 
 pub returns-after-loop-letter : goal.returns-after-loop-letter
@@ -48,12 +48,12 @@ returns-after-loop-letter g c =
       rising = c.loop-letter.invariant.1;
     }
 
-pub returns-in-default : goal.returns-in-default
-returns-in-default g c =
+pub returns-in_default : goal.returns-in_default
+returns-in_default g c =
     let n = g.T.Trellis.meaning c.args.trellis.now in
     let p = g.M.Measure.costs c.args.measure.now in
     let lawful = g.met.T.Trellis.lawful c.args.trellis.now in
     record {
-      kept = state_none n p c.args.sample c.args.from.now lawful c.args.state c.args.row.now c.args.bytes.now (is_none (held c.args.from.now c.args.state) c.in-default.not-Some) c.requires.kept;
+      kept = state_none n p c.args.sample c.args.from.now lawful c.args.state c.args.row.now c.args.bytes.now (is_none (held c.args.from.now c.args.state) c.in_default.not-Some) c.requires.kept;
       rising = λ rise. rise;
     }

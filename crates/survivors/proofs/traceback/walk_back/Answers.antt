@@ -8,8 +8,8 @@ use Rattle.survivors.proofs.traceback.walk_back.Goals as goal
 pub loop-k-preserved : goal.loop-k-preserved
 loop-k-preserved c =
     let l = c.loop-k in
-    let w = back_by c.args.choices.now l.letters l.k l.state c.place-of.result c.letter-of.result c.state-before-state.result c.loop-k-test.true (omega arith)
-    c.place-of.ensures c.letter-of.ensures c.state-before-state.ensures in
+    let w = back_by c.args.choices.now l.letters l.k l.state c.place_of.result c.letter_of.result c.state_before-state.result c.loop-k-test.true (omega arith)
+    c.place_of.ensures c.letter_of.ensures c.state_before-state.ensures in
     (search rules, w.0 ∙ l.invariant.1, w.1 ∙ l.invariant.2)
 
 pub returns : goal.returns
