@@ -14,7 +14,7 @@ use Rattle.algebras.specs.TwoLaws.{same_two, plain_product, paired, sum_is, prod
 use Rattle.paths.specs.declared.branch.ListedBranch.{ListedBranch}
 use Rattle.paths.specs.Paths.{permits}
 use Rattle.paths.specs.Sums.{total}
-use Rattle.paths.specs.Recursion.{branch_brings}
+use Rattle.paths.specs.FlatRecursion.{branch_brings}
 use Rattle.paths.proofs.Totals.{plus_zero, total_push}
 use Rattle.paths.proofs.Reading.{count_low, count_high, at_high, both_counts, counts_less, counts_more, counts_same, tied_plus}
 use Rattle.survivors.specs.declared.rank.Rank.{Rank}

@@ -11,7 +11,7 @@ use Rattle.paths.specs.declared.branch.ListedBranch.{ListedBranch}
 use Rattle.paths.specs.Paths.{permits}
 use Rattle.paths.specs.Listings.{below}
 use Rattle.paths.specs.Sums.{total, path_sum}
-use Rattle.paths.specs.Recursion.{branch_brings}
+use Rattle.paths.specs.FlatRecursion.{branch_brings}
 use Rattle.survivors.specs.declared.rank.Rank.{Rank}
 use Rattle.survivors.specs.Reaches.{unreached}
 

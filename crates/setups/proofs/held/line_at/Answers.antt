@@ -7,4 +7,4 @@ returns c =
     let t = c.args.text.now in
     let lt : ltb c.args.end (length t) ≡ true = lt-ltb _ _ c.if-end-text.false in
     let n : c.args.end - 0 ≡ c.args.end = omega arith in
-    rw lt (c.line-from.ensures ∙ ap (λ (k : ℕ). line_form (drop c.args.place (take k t))) n)
+    rw lt (c.line_from.ensures ∙ ap (λ (k : ℕ). line_form (drop c.args.place (take k t))) n)

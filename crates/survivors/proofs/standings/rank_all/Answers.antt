@@ -61,8 +61,8 @@ loop-k-preserved g c =
           (subst (λ z. Brought two_cheapest two p z row (branches_of d) next) same c.advance_ranks.ensures.two),
       sounds_more (k * most_cost + most_cost) ((k + 1) * most_cost) next (omega arith) (c.advance_ranks.ensures.sounds (k * most_cost) c.loop-k.invariant.3),
       λ i l. rest_more d lawful p c.args.start xs k lt (costs_in row) (costs_in next) bytes old kept c.loop-k.choices a (a + 64 - a) from room wide (omega arith) c.loop-k.invariant.4 i l,
-      c.type-inv.next,
-      c.type-inv.next,
+      c.type_inv.next,
+      c.type_inv.next,
       below_more (λ i. InRange (get_or xs i (pos 0))) k c.loop-k.invariant.7 (in_range_of x fits),
     )
 

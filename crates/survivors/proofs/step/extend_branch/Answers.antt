@@ -12,5 +12,5 @@ returns-in-Some g c =
     record {
       row = search rules;
       bytes = search rules;
-      low = λ n b l lo. subst (Low n (b + most_cost)) (sym c.put.ensures.row) (low_put n (b + most_cost) c.in-Some.next (c.args.from + c.from.result) row lt (omega (arith, c.from.ensures, c.cost.type-inv)) lo);
+      low = λ n b l lo. subst (Low n (b + most_cost)) (sym c.put.ensures.row) (low_put n (b + most_cost) c.in-Some.next (c.args.from + c.from.result) row lt (omega (arith, c.from.ensures, c.cost.type_inv)) lo);
     }
