@@ -10,4 +10,4 @@ returns-in-Square c = IfOk-weaker c.put.result _ _ (λ _ e. e ∙ ap (with_measu
 pub returns-in-Bits : goal.returns-in-Bits
 returns-in-Bits c =
     let f : SFits w32 c.in-Bits.width = search rules in
-    IfOk-weaker c.put-signed-line.result _ _ (λ _ e. e ∙ ap (with_signed_line (vec_items c.args.out.now) (codes "measure bits ")) (to_z-of_z w32 _ f) ∙ ap (with_measure (vec_items c.args.out.now)) (sym c.in-Bits.is)) c.put-signed-line.ensures
+    IfOk-weaker c.put_signed_line.result _ _ (λ _ e. e ∙ ap (with_signed_line (vec_items c.args.out.now) (codes "measure bits ")) (to_z-of_z w32 _ f) ∙ ap (with_measure (vec_items c.args.out.now)) (sym c.in-Bits.is)) c.put_signed_line.ensures

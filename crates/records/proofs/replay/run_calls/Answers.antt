@@ -9,8 +9,8 @@ loop-call-preserved g c =
     let l = c.loop-call in
     let cs = c.args.calls.now in
     let old = l.record in
-    let new = c.make-call-after.result.0 in
-    let made = c.make-call-after.ensures in
+    let new = c.make_call-after.result.0 in
+    let made = c.make_call-after.ensures in
     let few : l.call-index < allowed cs = omega (arith, c.requires, c.loop-call-test.true) in
     let w = run_more (g.T.Trellis.meaning c.new.result.trellis) (g.T.Trellis.meaning (trellis_of old)) cs l.call-index _ (is_settled old) (is_settled new) (held_in old) (held_in new) c.loop-call-test.true few
     (ap g.T.Trellis.meaning l.invariant.2) l.invariant.0 l.invariant.1 made.settled made.held in

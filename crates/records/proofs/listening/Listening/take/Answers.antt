@@ -3,8 +3,8 @@ use Rattle.std.proofs.lemmas.Int.{to_z-of_z}
 use Rattle.records.proofs.Keeping.{room}
 use Rattle.records.proofs.listening.Listening.take.Goals as goal
 
-pub invariant-of-self : goal.invariant-of-self
-invariant-of-self g c =
+pub invariant_of-self : goal.invariant_of-self
+invariant_of-self g c =
     let s = c.args.self.now in
     ((omega arith, simp length-set s.whole.1, s.whole.2), tt)
 
