@@ -7,7 +7,7 @@ use Rattle.std.proofs.Math.Nat.{ℕ_set, mod-mod, mod-add-mod, add-mod-mod}
 use Rattle.std.proofs.lemmas.Bool.{eqb-false}
 use Rattle.algebras.specs.declared.weights.CostCount.{CostCount}
 use Rattle.algebras.specs.Invariants.{wrapped_fits}
-use Rattle.algebras.specs.Numbers.{inf, capped_sum, count_sum, count_product, count_at}
+use Rattle.algebras.specs.Numbers.{inf, count_sum, count_at}
 use Rattle.algebras.specs.Semirings.{Semiring, Laws}
 use Rattle.algebras.specs.CostCounts.{cost_count, cheaper, cheapest_with_count}
 use Rattle.algebras.specs.Wrapping.{mod_mul_mod, mul_mod_mod}

@@ -1,6 +1,6 @@
 -- The laws of counting.
-use Rattle.std.specs.Prelude.{◌≡◌, refl, ℕ, ◌+◌, ◌*◌, ◌%◌, ◌^◌, ◌<◌}
-use Rattle.std.proofs.Common.{sym, ap, ◌∙◌, add_assoc, add_comm, mul_assoc, mul-add, add-mul, mod-eq_of_lt, one-mul, mul-one, zero-mul, mul-zero, zero-add, arith}
+use Rattle.std.specs.Prelude.{◌≡◌, ◌%◌, ◌^◌, ◌<◌}
+use Rattle.std.proofs.Common.{ap, add_assoc, add_comm, mul_assoc, mul-add, add-mul, arith}
 use mathlib.Core.HLevel.{is_prop→PathP}
 use Rattle.std.proofs.Math.Bridge.{le_prop}
 use Rattle.std.proofs.Math.Nat.{mod-mod, mod-add-mod, add-mod-mod}

@@ -1,5 +1,5 @@
 -- Worked sums and products.
-use Rattle.std.specs.Prelude.{◌≡◌, true, false, ℕ, ◌^◌, ◌-◌}
+use Rattle.std.specs.Prelude.{◌≡◌, true, false, ◌^◌, ◌-◌}
 use Rattle.algebras.specs.Numbers.{inf}
 use Rattle.algebras.specs.Semirings.{Semiring}
 use Rattle.algebras.specs.Booleans.{boolean}

@@ -1,8 +1,8 @@
 -- The reader accepts exactly the texts that describe a setup.
-use Rattle.std.proofs.Common.{◌≡◌, ℕ, ◌+◌, ◌≤◌, Bool, true, false, cond, leb, List, [], ◌∷◌, ◌++◌, length, Some, None, Ok, Err, Option, Result, sym, refl, ap, ◌∙◌, subst, arith, length-append, le-leb}
+use Rattle.std.proofs.Common.{◌≡◌, ℕ, ◌≤◌, Bool, true, false, cond, leb, List, [], ◌∷◌, length, Some, None, Ok, Err, Option, Result, sym, refl, ap, ◌∙◌, arith, length-append, le-leb}
 use Rattle.std.proofs.lemmas.Bool.{leb-true}
 use Rattle.model.specs.declared.refusal.Fault.{Fault}
-use Rattle.model.specs.Refusals.{Refused, refused, outcome}
+use Rattle.model.specs.Refusals.{Refused, outcome}
 use Rattle.lines.specs.declared.form.Line.{Line}
 use Rattle.setups.specs.declared.held.HeldLines.{HeldLines}
 use Rattle.setups.specs.declared.setup.Setup.{Setup}
@@ -12,7 +12,7 @@ use Rattle.setups.specs.Setups.{held_setup, setup_of}
 use Rattle.setups.specs.Texts.{lines_of, text_of}
 use Rattle.setups.proofs.Spelling.{onto, heard, reads_spelt, spelt_reads}
 use Rattle.setups.proofs.Ordering.{gathered_setup, onto_alike, respelt}
-use Rattle.descriptions.specs.Checks.{answers, Passes, first_fault}
+use Rattle.descriptions.specs.Checks.{answers, first_fault}
 use Rattle.descriptions.specs.Descriptions.{most_bytes, too_long, unless_fault, set_up, description, Describes, AnyOrder}
 use Rattle.descriptions.proofs.Faults.{all_accept, none_refuses}
 

@@ -1,5 +1,5 @@
 -- The laws of a channel and of its measure, kind by kind.
-use Rattle.std.specs.Prelude.{ℕ, ◌≤◌, ℤ}
+use Rattle.std.specs.Prelude.{◌≤◌, ℤ}
 use Rattle.model.specs.Ranges.{InRange, most_cost}
 use Rattle.model.specs.Trellises.{Lawful}
 use Rattle.trellises.specs.Laws.{taps_lawful, code_lawful, run_length_lawful, cascade_lawful}

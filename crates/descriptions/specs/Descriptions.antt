@@ -1,5 +1,5 @@
 -- A description: which texts are accepted, with which setup, and what is refused.
-use Rattle.std.specs.Prelude.{◌≡◌, ℕ, ◌≤◌, Bool, cond, List, [], ◌∷◌, length, Some, None, Ok, Err, Option, Result, nat_le}
+use Rattle.std.specs.Prelude.{◌≡◌, ℕ, ◌≤◌, Bool, cond, List, [], length, Some, None, Ok, Err, Option, Result, nat_le}
 use Rattle.model.specs.declared.refusal.Layer.TheVariants.{Blocks, Lines}
 use Rattle.model.specs.declared.refusal.Refusal.TheVariants.{LineSet, RecordingLarge}
 use Rattle.model.specs.Refusals.{refusal_number, layer_number, Refused}

@@ -1,10 +1,9 @@
 -- Worked descriptions.
-use Rattle.std.specs.Prelude.{◌≡◌, ℕ, List, [], ◌∷◌, ℤ, pos, Some, None, Ok, Err, codes, Result}
-use Rattle.model.specs.Refusals.{Refused}
+use Rattle.std.specs.Prelude.{◌≡◌, ℕ, List, [], ◌∷◌, pos, Some, None, Ok, Err, codes}
 use Rattle.lines.specs.declared.form.MeasureLine.TheVariants.{Square, Bits}
 use Rattle.lines.specs.Lists.{list_from}
 use Rattle.setups.specs.declared.setup.Setup.{Setup}
-use Rattle.setups.specs.declared.setup.TrellisSetup.TheVariants.{Taps, Code, CodeOverTaps, RllOverTaps}
+use Rattle.setups.specs.declared.setup.TrellisSetup.TheVariants.{Taps, Code}
 use Rattle.descriptions.specs.Descriptions.{description}
 
 -- a text that begins at 0 gives this setup

@@ -1,9 +1,9 @@
 -- Digits and figures.
-use Rattle.std.proofs.Common.{◌≡◌, ℕ, ◌+◌, ◌-◌, ◌<◌, ◌≤◌, Bool, true, false, cond, ◌&&◌, eqb, leb, List, [], ◌∷◌, length, get_or, take, drop, sym, refl, ap, ◌∙◌, arith, le-leb}
+use Rattle.std.proofs.Common.{◌≡◌, ℕ, ◌+◌, ◌-◌, ◌<◌, ◌≤◌, Bool, true, false, ◌&&◌, eqb, leb, List, [], ◌∷◌, length, get_or, take, drop, sym, ap, ◌∙◌, arith, le-leb}
 use borrow.Author.Tests.{lt-leb, clash}
 use Rattle.std.proofs.lemmas.List.{at_drop_more, at_drop_all, take_rest}
 use Rattle.std.proofs.lemmas.Bool.Decides.{nat_tests}
-use Rattle.lines.specs.Words.{all_digits, some_digits, figure}
+use Rattle.lines.specs.Words.{all_digits, figure}
 
 module _ (w : List ℕ) (i : ℕ) (within : i < length w) where
   head : all_digits (drop i w) ≡ (leb 48 (get_or w i 0) && leb (get_or w i 0) 57 && all_digits (drop (i + 1) w))

@@ -1,9 +1,9 @@
 -- What the lexer hands out and what it leaves, by the words of the text.
-use Rattle.std.proofs.Common.{◌≡◌, ℕ, ◌+◌, ◌-◌, ◌<◌, ◌≤◌, Bool, true, false, cond, ltb, List, [], ◌∷◌, length, take, drop, Some, None, Option, sym, refl, ap, ◌∙◌, arith, length-drop, le-ltb, lt-ltb}
+use Rattle.std.proofs.Common.{◌≡◌, ℕ, ◌+◌, ◌-◌, ◌<◌, ◌≤◌, Bool, true, false, cond, ltb, List, [], ◌∷◌, length, take, drop, Some, None, Option, sym, ap, ◌∙◌, arith, length-drop, le-ltb, lt-ltb}
 use Rattle.std.proofs.lemmas.List.{drop-drop, drop_all}
 use Rattle.std.proofs.lemmas.List.Sums.{prefix_len-le-length}
 use Rattle.std.specs.List.{prefix_len}
-use Rattle.lines.specs.Words.{is_space, other, words, figure, Spelled, word_at, word_start, starts_word, first, others}
+use Rattle.lines.specs.Words.{is_space, other, words, figure, Spelled, word_at, word_start, starts_word}
 use Rattle.lines.proofs.Runs.{spaces_skipped, word_starts, first_cut}
 
 module _ (t : List ℕ) (at f e : ℕ) (start : f ≡ word_start t at) (stop : e ≡ f + prefix_len (other 32) (drop f t)) where

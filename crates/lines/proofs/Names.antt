@@ -1,8 +1,8 @@
 -- A name writes no number, and a figure is not `any`.
-use Rattle.std.proofs.Common.{◌≡◌, ℕ, ◌+◌, ◌-◌, ◌*◌, ◌<◌, ◌≤◌, Bool, true, false, cond, ◌&&◌, eqb, ltb, leb, List, [], ◌∷◌, length, ℤ, pos, Some, None, codes, Option, sym, refl, ap, ◌∙◌, subst, arith, Bor, le-leb}
+use Rattle.std.proofs.Common.{◌≡◌, ℕ, ◌+◌, ◌-◌, ◌*◌, ◌≤◌, Bool, true, false, cond, ◌&&◌, eqb, ltb, leb, List, [], ◌∷◌, length, pos, Some, None, codes, Option, sym, refl, ap, ◌∙◌, subst, arith, Bor, le-leb}
 use borrow.Author.Tests.{clash}
 use Rattle.std.proofs.lemmas.Slice.Eq.{bytes_eq-Decides}
-use Rattle.std.proofs.lemmas.Bool.{and_parts, leb-true, ltb-true, eqb-true, cases_Bool}
+use Rattle.std.proofs.lemmas.Bool.{and_parts, ltb-true, eqb-true}
 use Rattle.std.specs.Option.{option_map}
 use Rattle.std.specs.Str.{bytes_eq}
 use Rattle.lines.specs.declared.lexer.Lexer.{Lexer}
@@ -11,7 +11,7 @@ use Rattle.lines.specs.declared.lexer.Word.TheVariants.{Name, Figure}
 use Rattle.lines.specs.declared.number.Radix.{Radix}
 use Rattle.lines.specs.declared.number.Radix.TheVariants.{Decimal, Octal}
 use Rattle.lines.specs.Words.{all_digits, some_digits, figure, Spelled, spelled, word_bytes, next_word, word_at, word_start, first, pending}
-use Rattle.lines.specs.Numbers.{is_digit, digits_after, numeral, negative, decimal, number_in}
+use Rattle.lines.specs.Numbers.{is_digit, digits_after, numeral, negative, number_in}
 use Rattle.lines.specs.Lists.{first_number}
 use Rattle.lines.proofs.NumberLists.{first_of}
 

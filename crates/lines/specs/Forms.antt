@@ -2,10 +2,6 @@
 use Rattle.std.specs.Prelude.{ℕ, ◌-◌, Bool, true, false, cond, not, ◌&&◌, ◌||◌, List, [], ◌∷◌, length, ℤ, Some, None, codes, Option, ◌==◌, nat_le, slice_index_or}
 use Rattle.std.specs.Option.{option_map}
 use Rattle.std.specs.Str.{bytes_eq}
-use Rattle.lines.specs.declared.form.CodeLine.{CodeLine}
-use Rattle.lines.specs.declared.form.RllLine.{RllLine}
-use Rattle.lines.specs.declared.form.TapsLine.{TapsLine}
-use Rattle.lines.specs.declared.form.MeasureLine.{MeasureLine}
 use Rattle.lines.specs.declared.form.MeasureLine.TheVariants.{Square, Bits}
 use Rattle.lines.specs.declared.form.Line.{Line}
 use Rattle.lines.specs.declared.form.Line.TheVariants.{Code, Rll, Taps, Measure, Start, End}

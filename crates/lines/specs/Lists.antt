@@ -1,5 +1,5 @@
 -- The numbers that stand at the end of a line.
-use Rattle.std.specs.Prelude.{ℕ, ◌+◌, ◌-◌, min, Bool, true, false, cond, ◌&&◌, List, [], ◌∷◌, ◌++◌, length, take, replicate, ℤ, pos, Some, None, Option, nat_le, slice_set}
+use Rattle.std.specs.Prelude.{ℕ, ◌+◌, ◌-◌, min, cond, ◌&&◌, List, [], ◌∷◌, ◌++◌, length, take, replicate, ℤ, pos, Some, None, Option, nat_le, slice_set}
 use Rattle.lines.specs.declared.list.NumberList.{NumberList}
 use Rattle.lines.specs.declared.number.Radix.{Radix}
 use Rattle.lines.specs.Numbers.{number_in}

@@ -1,5 +1,5 @@
 -- A listing that grows line by line.
-use Rattle.std.proofs.Common.{◌≡◌, ℕ, suc, ◌+◌, List, [], codes, sym, refl, ap, ◌∙◌, add-one}
+use Rattle.std.proofs.Common.{◌≡◌, ℕ, ◌+◌, List, [], codes, sym, ap, ◌∙◌, add-one}
 use Rattle.model.specs.Trellises.{Branch, Diagram}
 use Rattle.listings.specs.Listings.{with_sizes, with_measure, with_anchor, with_branch, with_state, with_states, listing}
 use Rattle.setups.specs.declared.setup.Setup.{Setup}

@@ -1,5 +1,5 @@
 -- The texts that the programs print. Each definition says what stands behind a text that it is given.
-use Rattle.std.specs.Prelude.{ℕ, zero, suc, List, [], ◌∷◌, ◌++◌, ℤ, Some, None, codes, decimal, Option}
+use Rattle.std.specs.Prelude.{ℕ, zero, suc, List, [], ◌++◌, ℤ, Some, None, codes, decimal, Option}
 use Rattle.std.specs.Fmt.{signed_decimal}
 use Rattle.model.specs.Refusals.{Refused}
 use Rattle.model.specs.Trellises.{Branch, Diagram}

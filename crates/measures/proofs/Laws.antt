@@ -1,5 +1,5 @@
 -- The bound of each measure by itself, for those who build on them.
-use Rattle.std.proofs.Common.{ℕ, ◌≤◌, ℤ, arith, rules}
+use Rattle.std.proofs.Common.{◌≤◌, ℤ, arith, rules}
 use Rattle.model.specs.Ranges.{InRange, most_cost}
 use Rattle.measures.specs.declared.bits.Bits.{Bits}
 use Rattle.measures.specs.BitCounts.{form, bit_count}

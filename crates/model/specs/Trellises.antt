@@ -1,5 +1,5 @@
 -- What a trellis means, and what is true of every trellis.
-use Rattle.std.specs.Prelude.{◌≡◌, ℕ, ◌<◌, ◌≤◌, Bool, cond, ℤ, pos, negsuc, is_some, Some, None, Option, nat_lt}
+use Rattle.std.specs.Prelude.{◌≡◌, ℕ, ◌<◌, ◌≤◌, cond, ℤ, pos, negsuc, is_some, Some, None, Option, nat_lt}
 use Rattle.model.specs.declared.refusal.Refusal.TheVariants.{NotAState}
 use Rattle.model.specs.Ranges.{InRange}
 use Rattle.model.specs.Refusals.{refusal_number}

@@ -1,17 +1,13 @@
 -- The pass over a list of branches, two samples a turn.
-use Rattle.std.proofs.Common.{◌≡◌, ℕ, ◌+◌, ◌<◌, ◌≤◌, cond, List, [], ◌∷◌, ◌++◌, length, get_or, take, drop, ℤ, pos, Some, Option, sym, refl, ap, ◌∙◌, subst, arith, take-append-drop}
-use Rattle.std.proofs.lemmas.List.{get_or_default, take_more}
+use Rattle.std.proofs.Common.{◌≡◌, ℕ, ◌+◌, ◌<◌, ◌≤◌, List, [], ◌∷◌, ◌++◌, length, get_or, take, drop, ℤ, pos, sym, refl, ap, ◌∙◌, arith, take-append-drop}
+use Rattle.std.proofs.lemmas.List.{take_more}
 use Rattle.model.specs.Trellises.{Diagram, Lawful}
 use Rattle.algebras.specs.Semirings.{Semiring, Laws}
-use Rattle.paths.specs.Paths.{permits}
-use Rattle.paths.specs.Listings.{below}
-use Rattle.paths.specs.Sums.{total, path_sum}
 use Rattle.paths.specs.Rows.{Entries, Copied}
 use Rattle.paths.specs.declared.branch.ListedBranch.{ListedBranch}
 use Rattle.paths.specs.Branches.{branches_of}
 use Rattle.paths.specs.Recursion.{stepped, after}
 use Rattle.paths.specs.FlatRecursion.{with_branches}
-use Rattle.paths.proofs.Totals.{total_below}
 use Rattle.paths.proofs.Branching.{all_within, all_bring}
 use Rattle.paths.proofs.FlatRowing.{extended_clear}
 use Rattle.paths.proofs.Running.{stepped_same, after_same, run_none}

@@ -1,5 +1,5 @@
 -- What the sums say in the five algebras.
-use Rattle.std.proofs.Common.{◌≡◌, ℕ, zero, suc, ◌+◌, ◌*◌, ◌%◌, ◌^◌, ◌<◌, ◌≤◌, min, true, cond, eqb, ltb, ◌⊎◌, List, [], ◌∷◌, length, Some, None, fold, Option, unwrap_or, sym, refl, ap, ◌∙◌, ap₂, inl, inr, add-zero, zero-add, one-add, arith, le-ltb, lt-ltb, eq-eqb, ne_eqb}
+use Rattle.std.proofs.Common.{◌≡◌, ℕ, suc, ◌+◌, ◌*◌, ◌%◌, ◌^◌, ◌<◌, ◌≤◌, min, true, cond, eqb, ltb, ◌⊎◌, List, [], ◌∷◌, length, Some, None, fold, Option, unwrap_or, sym, refl, ap, ◌∙◌, ap₂, inl, inr, add-zero, zero-add, one-add, arith, le-ltb, lt-ltb, eq-eqb, ne_eqb}
 use native.Mathlib.Nat.{mod-mod, mod-add-mod, add-mod-mod}
 use Rattle.std.proofs.lemmas.Bool.{cases_lt, cases_order}
 use Rattle.algebras.specs.declared.weights.TwoCosts.{TwoCosts}

@@ -1,5 +1,5 @@
 -- The forward recursion sums over all paths.
-use Rattle.std.proofs.Common.{◌≡◌, ℕ, zero, suc, ◌<◌, Bool, true, false, cond, ◌&&◌, eqb, List, [], ◌∷◌, ◌++◌, map, length, ℤ, is_some, Some, None, Option, sym, refl, ap, ◌∙◌}
+use Rattle.std.proofs.Common.{◌≡◌, ℕ, suc, ◌<◌, Bool, true, false, cond, ◌&&◌, eqb, List, [], ◌∷◌, ◌++◌, map, length, ℤ, is_some, Some, None, Option, sym, refl, ap, ◌∙◌}
 use Rattle.model.specs.Trellises.{Branch, Diagram, StaysIn, Lawful}
 use Rattle.algebras.specs.Semirings.{Semiring, Laws}
 use Rattle.paths.specs.Paths.{Path, along, reached, labels, last_state, permits, permits_last, admissible, costs_against, product, path_weight}

@@ -11,8 +11,8 @@ use Rattle.model.specs.declared.refusal.Refusal.TheVariants.{LineForm, LineRepea
 use Rattle.model.specs.Refusals.{Refused}
 use Rattle.setups.specs.declared.held.Placed.{Placed}
 use Rattle.setups.specs.declared.held.HeldLines.{HeldLines}
-use Rattle.setups.specs.Texts.{Piece, lines_of}
-use Rattle.setups.specs.Lines.{first_word, Read, seen, code_in, rll_in, taps_in, measure_in, start_in, end_in, or_else, pick, gathered, is_held, with_line, line_read, read_lines, follow, said, line_fault, gathered_from}
+use Rattle.setups.specs.Texts.{lines_of}
+use Rattle.setups.specs.Lines.{first_word, Read, seen, code_in, rll_in, taps_in, measure_in, start_in, end_in, or_else, pick, gathered, is_held, with_line, line_read, read_lines, follow, line_fault, gathered_from}
 use Rattle.setups.proofs.Pieces.{line_cut, line_long}
 
 module _ {X : Type 0} (f : Line → Option X) (w : List ℕ) (names : (l : Line) → bytes_eq w (first_word l) ≡ is_some (f l)) where

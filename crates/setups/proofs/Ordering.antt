@@ -1,14 +1,11 @@
 -- The order of the lines does not matter.
-use Rattle.std.proofs.Common.{◌≡◌, ℕ, Bool, true, false, cond, ◌||◌, List, [], ◌∷◌, map, ℤ, is_some, Some, None, codes, Option, sym, refl, ap, ◌∙◌, subst, arith}
+use Rattle.std.proofs.Common.{◌≡◌, ℕ, Bool, true, false, ◌||◌, List, [], ◌∷◌, is_some, Some, None, codes, Option, sym, refl, ap, ◌∙◌}
 use borrow.Author.Tests.{clash}
 use Rattle.std.proofs.lemmas.Slice.Eq.{bytes_eq-Decides}
-use Rattle.std.proofs.lemmas.Bool.{or_parts, or_from, or_right}
+use Rattle.std.proofs.lemmas.Bool.{or_parts, or_from}
 use Rattle.std.specs.Str.{bytes_eq}
 use Rattle.lines.specs.declared.form.Line.{Line}
-use Rattle.lines.specs.declared.form.MeasureLine.{MeasureLine}
-use Rattle.lines.specs.Forms.{line_form}
 use Rattle.setups.specs.declared.held.Placed.{Placed}
-use Rattle.setups.specs.declared.setup.TrellisSetup.{TrellisSetup}
 use Rattle.setups.specs.Texts.{text_of}
 use Rattle.setups.specs.Lines.{first_word, Read, code_in, rll_in, taps_in, measure_in, start_in, end_in, or_else, pick, gathered}
 use Rattle.setups.specs.Setups.{trellis_of, setup_from, content, held_setup, or_later, chosen, setup_of}

@@ -6,11 +6,10 @@ use Rattle.std.specs.Str.{bytes_eq}
 use Rattle.lines.specs.declared.form.Line.{Line}
 use Rattle.lines.specs.Forms.{line_byte, line_bytes, well_spaced, form_of, line_form}
 use Rattle.lines.specs.Words.{is_space, words}
-use Rattle.model.specs.declared.refusal.Refusal.TheVariants.{LineForm, LineRepeated}
-use Rattle.model.specs.Refusals.{Refused}
+use Rattle.model.specs.declared.refusal.Refusal.TheVariants.{LineRepeated}
 use Rattle.setups.specs.Texts.{Piece, onto_line, lines_of, text_of}
 use Rattle.setups.specs.Lines.{first_word, Read, seen, line_read, read_lines, follow, said, line_fault}
-use Rattle.setups.specs.Described.{Forms, named, OnceAfter, Once, Spells}
+use Rattle.setups.specs.Described.{Forms, named, OnceAfter, Spells}
 
 -- each piece is ended, and has its form
 abbrev Said : List Piece → List Line → Type 0

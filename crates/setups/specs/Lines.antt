@@ -1,6 +1,5 @@
 -- The lines of a description: which are read, which are refused, and the setup that they give.
-use Rattle.std.specs.Prelude.{ℕ, ◌+◌, Bool, true, false, cond, ◌||◌, List, [], ◌∷◌, length, ℤ, is_some, Some, None, Ok, Err, codes, Option, Result}
-use Rattle.std.specs.Option.{option_map}
+use Rattle.std.specs.Prelude.{ℕ, ◌+◌, Bool, false, cond, ◌||◌, List, [], ◌∷◌, length, ℤ, is_some, Some, None, Ok, Err, codes, Option, Result}
 use Rattle.std.specs.Str.{bytes_eq}
 use Rattle.lines.specs.declared.form.CodeLine.{CodeLine}
 use Rattle.lines.specs.declared.form.RllLine.{RllLine}

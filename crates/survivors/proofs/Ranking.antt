@@ -8,7 +8,7 @@ use Rattle.algebras.specs.declared.weights.TwoCosts.{TwoCosts}
 use Rattle.algebras.specs.Numbers.{inf, capped_sum, count_product, count_at}
 use Rattle.algebras.specs.Semirings.{Semiring, Laws}
 use Rattle.algebras.specs.CostCounts.{cost_count, cheapest_with_count}
-use Rattle.algebras.specs.TwoCosts.{pair, two_cheapest}
+use Rattle.algebras.specs.TwoCosts.{two_cheapest}
 use Rattle.algebras.specs.CostCountLaws.{same_cost_count, cost_count_laws}
 use Rattle.algebras.specs.TwoLaws.{same_two, plain_product, paired, sum_is, product_is, two_laws}
 use Rattle.paths.specs.declared.branch.ListedBranch.{ListedBranch}

@@ -1,5 +1,5 @@
 -- A scan finds the least cost, and the first number that has it.
-use Rattle.std.proofs.Common.{◌≡◌, ℕ, zero, suc, ◌<◌, ◌≤◌, Bool, true, false, cond, ltb, ◌⊎◌, Some, None, Option, refl, ap, ◌∙◌, inl, inr, arith, below_more, ltb-false, ltb-true}
+use Rattle.std.proofs.Common.{◌≡◌, ℕ, zero, suc, ◌<◌, ◌≤◌, Bool, true, false, cond, ltb, ◌⊎◌, Some, None, Option, refl, inl, inr, arith, below_more, ltb-false, ltb-true}
 use Rattle.survivors.specs.Survivors.{pick, scan}
 use Rattle.paths.proofs.Listing.{never}
 use Rattle.survivors.proofs.Pushes.{same_some}

@@ -1,5 +1,5 @@
 -- Ranks over all samples and over all permitted ends.
-use Rattle.std.proofs.Common.{◌≡◌, ℕ, ◌+◌, ◌*◌, ◌%◌, ◌^◌, ◌<◌, ◌≤◌, min, Bool, true, false, cond, List, [], ◌∷◌, ◌++◌, length, get_or, take, ℤ, pos, negsuc, ◌≤ℤ◌, Some, None, Option, unwrap_or, sym, refl, ap, ◌∙◌, subst, ap₂, inl, inr, mod-eq_of_lt, arith, w16, SFits}
+use Rattle.std.proofs.Common.{◌≡◌, ℕ, ◌+◌, ◌%◌, ◌^◌, ◌<◌, ◌≤◌, min, true, false, cond, List, length, get_or, take, ℤ, pos, negsuc, Some, None, Option, unwrap_or, sym, refl, ap, ◌∙◌, ap₂, inl, inr, mod-eq_of_lt, arith, w16, SFits}
 use Rattle.std.proofs.lemmas.List.{take_more}
 use Rattle.std.proofs.lemmas.Int.{ints}
 use Rattle.std.proofs.lemmas.Bool.{cases_lt}
@@ -11,12 +11,11 @@ use Rattle.algebras.specs.Semirings.{Semiring, Laws}
 use Rattle.algebras.specs.CostCounts.{cheapest_with_count}
 use Rattle.algebras.specs.TwoCosts.{two_cheapest}
 use Rattle.paths.specs.Paths.{Path, permits, path_cost}
-use Rattle.paths.specs.Listings.{below}
-use Rattle.paths.specs.Sums.{total, path_sum}
+use Rattle.paths.specs.Sums.{path_sum}
 use Rattle.paths.specs.Cheapest.{ties, second}
 use Rattle.paths.specs.Laws.{First, IsSecond}
 use Rattle.paths.specs.Branches.{branches_of}
-use Rattle.paths.specs.Recursion.{stepped, after, opened}
+use Rattle.paths.specs.Recursion.{after, opened}
 use Rattle.paths.proofs.Totals.{plus_zero, total_more, total_below}
 use Rattle.paths.proofs.Branching.{all_bring}
 use Rattle.paths.proofs.Running.{stepped_same, after_same}

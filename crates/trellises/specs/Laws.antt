@@ -1,5 +1,5 @@
 -- The laws of each trellis by what it means, for its own proof and for those who build on it.
-use Rattle.std.specs.Prelude.{◌≤◌, length, take, Some, None, Option, refl}
+use Rattle.std.specs.Prelude.{◌≤◌, length, Some, None, Option}
 use Rattle.std.proofs.Common.{arith, rules}
 use Rattle.std.proofs.lemmas.List.{length-take-le}
 use Rattle.model.specs.Trellises.{Diagram, Lawful}

@@ -1,6 +1,5 @@
-use Rattle.std.proofs.Common.{◌≡◌, sym, refl, ap, ◌∙◌, rules}
 use Rattle.std.proofs.lemmas.Result.{err_from_is_err_and}
-use Rattle.descriptions.specs.Checks.{faulted, trellis_answers, other_answers}
+use Rattle.descriptions.specs.Checks.{trellis_answers, other_answers}
 use Rattle.descriptions.proofs.Faults.{fault_first, fault_next}
 use Rattle.descriptions.proofs.check.check_setup.Goals as goal
 

@@ -1,4 +1,4 @@
-use Rattle.std.proofs.Common.{◌≡◌, ℕ, leb, sym, ap, ◌∙◌, length-drop}
+use Rattle.std.proofs.Common.{ℕ, leb, sym, ap, ◌∙◌, length-drop}
 use Rattle.descriptions.proofs.reader.is_short_from.Goals as goal
 
 pub returns : goal.returns

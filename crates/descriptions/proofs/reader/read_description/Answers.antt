@@ -1,4 +1,4 @@
-use Rattle.std.proofs.Common.{◌≡◌, drop, sym, refl, ap, ◌∙◌}
+use Rattle.std.proofs.Common.{drop, sym, ap, ◌∙◌}
 use Rattle.model.specs.Refusals.{outcome}
 use Rattle.descriptions.proofs.Describing.{accepted_describes, described_accepted, any_order, outcome_ok}
 use Rattle.descriptions.proofs.reader.read_description.Goals as goal

@@ -1,4 +1,4 @@
-use Rattle.std.proofs.Common.{◌≡◌, false, ltb, length, sym, refl, ap, ◌∙◌, le-ltb}
+use Rattle.std.proofs.Common.{◌≡◌, false, ltb, length, sym, ap, ◌∙◌, le-ltb}
 use Rattle.std.proofs.lemmas.List.{take_rest, drop_all}
 use Rattle.lines.specs.Forms.{well_spaced}
 use Rattle.lines.proofs.form.is_line_from.Goals as goal

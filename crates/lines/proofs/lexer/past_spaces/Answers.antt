@@ -1,6 +1,5 @@
-use Rattle.std.proofs.Common.{◌≡◌, ◌+◌, true, false, get_or, drop, rules, eq-eqb, ne_eqb}
-use Rattle.std.specs.List.{prefix_len}
-use Rattle.lines.specs.Words.{other, is_space}
+use Rattle.std.proofs.Common.{eq-eqb, ne_eqb}
+use Rattle.lines.specs.Words.{is_space}
 use Rattle.lines.proofs.Runs.{run_more, run_stop, run_end}
 use Rattle.lines.proofs.lexer.past_spaces.Goals as goal
 

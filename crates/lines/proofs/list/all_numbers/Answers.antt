@@ -1,7 +1,7 @@
-use Rattle.std.proofs.Common.{◌≡◌, ℕ, List, Some, sym, refl, ap, ◌∙◌, subst, w32, SFits, rules}
+use Rattle.std.proofs.Common.{ℕ, List, Some, sym, ap, ◌∙◌, subst, w32, SFits, rules}
 use Rattle.std.proofs.lemmas.Int.{to_z-of_z}
 use Rattle.lines.specs.declared.list.NumberList.{NumberList}
-use Rattle.lines.specs.Words.{pending, others}
+use Rattle.lines.specs.Words.{pending}
 use Rattle.lines.specs.Lists.{with_last}
 use Rattle.lines.proofs.NumberLists.{Reads, reads_more}
 use Rattle.lines.proofs.list.all_numbers.Goals as goal

@@ -1,4 +1,4 @@
-use Rattle.std.proofs.Common.{◌≡◌, Some, sym, refl, ap, ◌∙◌}
+use Rattle.std.proofs.Common.{Some, sym, ap, ◌∙◌}
 use Rattle.lines.specs.declared.lexer.Word.{Word}
 use Rattle.lines.specs.Words.{word_bytes}
 use Rattle.lines.proofs.Names.{name_first, first_number_at}

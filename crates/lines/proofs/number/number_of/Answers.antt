@@ -1,4 +1,4 @@
-use Rattle.std.proofs.Common.{◌≡◌, ℕ, ◌≤◌, length, get_or, ℤ, Some, Option, sym, refl, ap, ◌∙◌, rules}
+use Rattle.std.proofs.Common.{◌≡◌, ◌≤◌, length, get_or, ℤ, Some, sym, ap, ◌∙◌, rules}
 use Rattle.lines.specs.Numbers.{number_in}
 use Rattle.lines.proofs.Numerals.{minus_is, minus_value}
 use Rattle.lines.proofs.number.number_of.Goals as goal

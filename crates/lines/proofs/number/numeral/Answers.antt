@@ -1,6 +1,5 @@
-use Rattle.std.proofs.Common.{◌≡◌, ℕ, ◌+◌, ◌*◌, ◌^◌, ◌<◌, ◌≤◌, true, false, eqb, length, get_or, sym, refl, ap, ◌∙◌, arith, rules}
+use Rattle.std.proofs.Common.{◌≡◌, ℕ, ◌+◌, ◌*◌, ◌^◌, ◌<◌, false, eqb, get_or, sym, ◌∙◌, arith}
 use Rattle.std.proofs.lemmas.Bool.{eqb-false}
-use Rattle.lines.specs.Numbers.{is_digit, digits_after, numeral}
 use Rattle.lines.proofs.Numerals.{digit_found, digit_missing, digit_below, digit_room, million, digits_step, digits_broken, digits_done, numeral_is}
 use Rattle.lines.proofs.number.numeral.Goals as goal
 

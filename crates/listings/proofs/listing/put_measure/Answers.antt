@@ -1,4 +1,4 @@
-use Rattle.std.proofs.Common.{◌≡◌, vec_items, codes, sym, ap, ◌∙◌, w32, SFits, rules}
+use Rattle.std.proofs.Common.{vec_items, codes, sym, ap, ◌∙◌, w32, SFits, rules}
 use Rattle.std.proofs.lemmas.Result.{IfOk-weaker}
 use Rattle.std.proofs.lemmas.Int.{to_z-of_z}
 use Rattle.listings.specs.Listings.{with_measure, with_signed_line}

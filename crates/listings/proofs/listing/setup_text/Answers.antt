@@ -1,4 +1,4 @@
-use Rattle.std.proofs.Common.{◌≡◌, vec_items, codes, ap, ◌∙◌, rules}
+use Rattle.std.proofs.Common.{vec_items}
 use Rattle.descriptions.specs.Channels.{channel_meaning}
 use Rattle.listings.proofs.Growing.{listed}
 use Rattle.listings.proofs.listing.setup_text.Goals as goal

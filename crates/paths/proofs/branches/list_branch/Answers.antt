@@ -1,8 +1,7 @@
-use Rattle.std.proofs.Common.{◌≡◌, ◌+◌, ◌*◌, [], ◌∷◌, ◌++◌, take, set, sym, ap, ◌∙◌, arith, w16, SFits, to_z, of_z, rules}
+use Rattle.std.proofs.Common.{◌+◌, ◌*◌, ◌++◌, take, set, sym, ap, ◌∙◌, arith, w16, SFits, rules}
 use Rattle.std.proofs.lemmas.List.{take_more_set}
 use Rattle.std.proofs.lemmas.Int.{to_z-of_z}
 use Rattle.paths.specs.Branches.{listed}
-use Rattle.paths.specs.declared.branch.ListedBranch.{ListedBranch}
 use Rattle.paths.proofs.branches.list_branch.Goals as goal
 
 pub returns-in-Some : goal.returns-in-Some

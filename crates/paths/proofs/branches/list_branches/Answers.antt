@@ -1,4 +1,4 @@
-use Rattle.std.proofs.Common.{◌≡◌, ◌<◌, ◌≤◌, [], take, sym, ap, ◌∙◌, subst, arith}
+use Rattle.std.proofs.Common.{[], take, arith}
 use Rattle.paths.specs.Branches.{branches_from}
 use Rattle.paths.proofs.Branching.{listed_more, states_all}
 use Rattle.paths.proofs.branches.list_branches.Goals as goal

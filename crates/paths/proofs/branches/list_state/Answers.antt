@@ -1,4 +1,4 @@
-use Rattle.std.proofs.Common.{◌≡◌, ◌<◌, ◌≤◌, ◌++◌, take, sym, ap, ◌∙◌, subst, arith}
+use Rattle.std.proofs.Common.{◌≤◌, ◌++◌, take, sym, ap, ◌∙◌, subst, arith}
 use Rattle.model.specs.Trellises.{StaysIn, most_states}
 use Rattle.paths.specs.Branches.{listed}
 use Rattle.paths.proofs.Rowing.{stays_more}

@@ -1,5 +1,4 @@
-use Rattle.std.proofs.Common.{◌≡◌, ℕ, ◌<◌, length, get_or, take, set, ℤ, pos, fold, sym, refl, ap, ◌∙◌, subst, ap₂, arith, take_all, w16, SFits, to_z, of_z, rules}
-use Rattle.std.specs.List.{AllByRecursion}
+use Rattle.std.proofs.Common.{◌≡◌, ◌<◌, length, get_or, set, pos, sym, ap, ◌∙◌, subst, ap₂, arith, take_all, w16, SFits, to_z, of_z, rules}
 use Rattle.std.proofs.ByRecursion.{All-get_or}
 use Rattle.std.proofs.lemmas.List.{get_or_default}
 use Rattle.std.proofs.lemmas.List.Sums.{fold_more}

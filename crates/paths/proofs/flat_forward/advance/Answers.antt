@@ -1,9 +1,7 @@
-use Rattle.std.proofs.Common.{◌≡◌, ◌≤◌, length, get_or, sym, refl, ap, ◌∙◌, subst, arith, w16, to_z, of_z}
+use Rattle.std.proofs.Common.{◌≡◌, ◌≤◌, length, get_or, sym, ◌∙◌, subst, arith, w16}
 use Rattle.std.specs.List.{AllByRecursion}
 use Rattle.std.proofs.lemmas.Int.{to_z-of_z}
-use Rattle.paths.specs.Rows.{Entries}
 use Rattle.paths.specs.Branches.{Within, branches_of}
-use Rattle.paths.specs.Recursion.{stepped}
 use Rattle.paths.specs.FlatRecursion.{with_branches}
 use Rattle.paths.proofs.Branching.{all_within, within_more}
 use Rattle.paths.proofs.Running.{cleared}

@@ -1,4 +1,4 @@
-use Rattle.std.proofs.Common.{◌≡◌, ℕ, ◌-◌, true, ltb, List, length, take, drop, sym, refl, ap, ◌∙◌, arith, lt-ltb}
+use Rattle.std.proofs.Common.{◌≡◌, ℕ, ◌-◌, true, ltb, length, take, drop, ap, ◌∙◌, arith, lt-ltb}
 use Rattle.lines.specs.Forms.{line_form}
 use Rattle.setups.proofs.held.line_at.Goals as goal
 

@@ -1,4 +1,4 @@
-use Rattle.std.proofs.Common.{◌≡◌, Err, Result, sym, refl, ap, ◌∙◌}
+use Rattle.std.proofs.Common.{Err, Result, ap, ◌∙◌}
 use Rattle.model.specs.Refusals.{Refused}
 use Rattle.setups.specs.declared.held.HeldLines.{HeldLines}
 use Rattle.setups.proofs.Holding.{reading_done, reading_bad, reading_again, reading_more}

@@ -1,4 +1,4 @@
-use Rattle.std.proofs.Common.{◌≡◌, ℕ, ◌+◌, ◌^◌, ◌<◌, ◌≤◌, true, false, cond, ltb, length, get_or, take, set, pos, Option, sym, refl, ap, ◌∙◌, subst, arith, length-set, take_all, w16, SFits, to_z, of_z, rules}
+use Rattle.std.proofs.Common.{◌≡◌, ℕ, ◌+◌, ◌^◌, ◌≤◌, cond, ltb, length, get_or, take, set, pos, Option, sym, refl, ap, ◌∙◌, subst, arith, length-set, take_all, w16, SFits, to_z, of_z, rules}
 use lib.Seq.{set-get_or}
 use Rattle.std.proofs.ByRecursion.{All-get_or}
 use Rattle.std.proofs.lemmas.List.{get_or_default}
@@ -9,8 +9,8 @@ use Rattle.algebras.specs.TwoCosts.{two_cheapest}
 use Rattle.paths.specs.declared.branch.ListedBranch.{ListedBranch}
 use Rattle.paths.specs.Branches.{Within}
 use Rattle.survivors.specs.Survivors.{pick, offered_by, best_of}
-use Rattle.survivors.specs.Reaches.{unreached, reached_at, Kept}
-use Rattle.survivors.specs.Ranks.{tied, two, nowhere, joined_rank, Sound, past, Sounds, costs_in, Brought}
+use Rattle.survivors.specs.Reaches.{reached_at, Kept}
+use Rattle.survivors.specs.Ranks.{tied, two, joined_rank, Sound, past, Sounds, costs_in, Brought}
 use Rattle.survivors.proofs.RankRowing.{kept_none, kept_same, best_more}
 use Rattle.survivors.proofs.Ranking.{sounds_more, sound_nowhere, brought_none, clear_costs, kept_rank, sounds_branch, tied_branch, two_branch}
 use Rattle.survivors.proofs.ranks.extend.Goals as goal

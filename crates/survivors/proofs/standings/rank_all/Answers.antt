@@ -11,7 +11,7 @@ use Rattle.paths.specs.Recursion.{after}
 use Rattle.survivors.specs.Survivors.{best}
 use Rattle.survivors.specs.Rows.{Tabled}
 use Rattle.survivors.specs.Reaches.{reached_at, Kept, Costed}
-use Rattle.survivors.specs.Ranks.{tied, two, past, Sounds, costs_in, Brought}
+use Rattle.survivors.specs.Ranks.{tied, two, past, costs_in, Brought}
 use Rattle.survivors.proofs.RankTabling.{zeros_part, costed_none, costed_more, tabled_more, rest_more}
 use Rattle.survivors.proofs.Ranking.{sounds_more, opening_reached}
 use Rattle.survivors.proofs.Surveying.{rank_more, rank_sums, opening_tied, opening_two, in_range_of}
