@@ -1,3 +1,4 @@
 pub mod Keeping
 pub mod FirstReports
+pub mod SettlesLemmas
 pub mod Runs

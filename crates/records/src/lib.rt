@@ -9,7 +9,6 @@ pub mod record;
 pub mod replay;
 pub mod report;
 pub mod reporting;
-mod seal;
 pub mod settled;
 pub mod settling;
 mod table;

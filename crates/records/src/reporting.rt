@@ -55,7 +55,6 @@ impl<T: Trellis, M: Measure> Settled<T, M> {
         ensures buffer { buffer.new ≡ written (reported_path (T.Trellis.meaning self.now.work.trellis) (M.Measure.costs self.now.work.measure) (held_of self.now.work.table)) (has_room (length (held_of self.now.work.table).samples) place (length buffer.old)) place buffer.old }
         ensures law { AnswersReport (T.Trellis.meaning self.now.work.trellis) (M.Measure.costs self.now.work.measure) (held_of self.now.work.table) place result buffer.old buffer.new }
     {
-        self.seal.tell();
         let work = &self.work;
         let standing = path_standing(work.standing)?;
         let held = work.table.held;

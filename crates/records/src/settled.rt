@@ -1,8 +1,8 @@
 // A record whose choices are made.
 ghost use Rattle.std.specs.Prelude.{◌≡◌};
 ghost use Rattle.records.specs.Sound.{Sound};
+ghost use Rattle.records.specs.Settles.{Settles, settles_prop};
 
-use crate::seal::Seal;
 use crate::work::Work;
 use model::measure::Measure;
 use model::trellis::Trellis;
@@ -10,8 +10,7 @@ use model::trellis::Trellis;
 #[derive(Drop)]
 pub struct Settled<T: Trellis, M: Measure> {
     pub(crate) work: Work<T, M>,
-    pub(crate) seal: Seal<T, M>,
-    ghost same: { seal.on ≡ work },
+    ghost settles: { Settles T.Trellis.meaning M.Measure.costs work } by { settles_prop T.Trellis.meaning M.Measure.costs work },
 }
 
 impl<T: Trellis, M: Measure> Settled<T, M> {
@@ -19,15 +18,13 @@ impl<T: Trellis, M: Measure> Settled<T, M> {
         requires { Sound T.Trellis.meaning M.Measure.costs work }
         ensures { result.work ≡ work }
     {
-        let seal = Seal::new(&work);
-        Settled { work, seal }
+        Settled { work }
     }
 
     pub(crate) fn look(&self) -> &Work<T, M>
         ensures value { result.now ≡ self.now.work }
         ensures sound { Sound T.Trellis.meaning M.Measure.costs self.now.work }
     {
-        self.seal.tell();
         &self.work
     }
 
@@ -35,8 +32,7 @@ impl<T: Trellis, M: Measure> Settled<T, M> {
         ensures value { result ≡ self.work }
         ensures sound { Sound T.Trellis.meaning M.Measure.costs result }
     {
-        let Settled { work, seal } = self;
-        seal.tell();
+        let Settled { work } = self;
         work
     }
 }

@@ -6,7 +6,7 @@ use Rattle.records.proofs.listening.Listening.take.Goals as goal
 pub invariant_of-self : goal.invariant_of-self
 invariant_of-self g c =
     let s = c.args.self.now in
-    ((omega arith, simp length-set s.whole.1, s.whole.2), tt)
+    record { whole = (omega arith, simp length-set s.whole.1, s.whole.2) }
 
 pub returns : goal.returns
 returns g c =

@@ -1,10 +1,10 @@
 use Rattle.std.proofs.Common.{◌≡◌, true, cond, length, take, is_some, Some, None, sym, ap, ◌∙◌, subst, rules}
 use Rattle.std.proofs.lemmas.Result.{err_from_is_err_and}
 use Rattle.survivors.specs.Traces.{StandsAt}
-use Rattle.records.specs.Sound.{Sound}
 use Rattle.records.specs.Tables.{held_of}
 use Rattle.records.specs.Reports.{has_room}
 use Rattle.records.proofs.Keeping.{held_length}
+use Rattle.records.proofs.SettlesLemmas.{sound_from}
 use Rattle.records.proofs.FirstReports.{Shown, shown_none, shown_short, shown_path, put_letters, part_length}
 use Rattle.records.proofs.settled.Settled.report.Goals as goal
 
@@ -15,7 +15,7 @@ returns-in_err-standing g c =
     let p = g.M.Measure.costs w.measure in
     let h = held_of w.table in
     let buf = c.args.buffer.now in
-    let s : Sound g.T.Trellis.meaning g.M.Measure.costs w = subst (Sound g.T.Trellis.meaning g.M.Measure.costs) c.args.self.now.same c.tell.ensures in
+    let s = sound_from g.T.Trellis.meaning g.M.Measure.costs w (g.met.T.Trellis.lawful w.trellis) c.args.self.now.settles in
     let is : w.standing ≡ None = sym c.in_err-standing.ensures.value in
     let none = subst (StandsAt d p h.start h.end h.samples) is s.stands in
     let e = err_from_is_err_and c.from_residual.result c.from_residual.ensures.1 in
@@ -29,7 +29,7 @@ returns-then-not-is_room g c =
     let p = g.M.Measure.costs w.measure in
     let h = held_of w.table in
     let buf = c.args.buffer.now in
-    let s : Sound g.T.Trellis.meaning g.M.Measure.costs w = subst (Sound g.T.Trellis.meaning g.M.Measure.costs) c.args.self.now.same c.tell.ensures in
+    let s = sound_from g.T.Trellis.meaning g.M.Measure.costs w (g.met.T.Trellis.lawful w.trellis) c.args.self.now.settles in
     let some = subst (StandsAt d p h.start h.end h.samples) (sym c.in_ok-standing.ensures.value) s.stands in
     let n : length h.samples ≡ w.table.held = held_length w.table s.whole in
     let shown = shown_short d (g.met.T.Trellis.lawful w.trellis) p h c.args.place buf some.0 some.1 (rw n (sym c.is_room.ensures ∙ c.if-not-is_room.true)) in
@@ -41,7 +41,7 @@ unwrap-first-requires g c =
     let d = g.T.Trellis.meaning w.trellis in
     let p = g.M.Measure.costs w.measure in
     let h = held_of w.table in
-    let s : Sound g.T.Trellis.meaning g.M.Measure.costs w = subst (Sound g.T.Trellis.meaning g.M.Measure.costs) c.args.self.now.same c.tell.ensures in
+    let s = sound_from g.T.Trellis.meaning g.M.Measure.costs w (g.met.T.Trellis.lawful w.trellis) c.args.self.now.settles in
     let some = subst (StandsAt d p h.start h.end h.samples) (sym c.in_ok-standing.ensures.value) s.stands in
     let fits = sym c.is_room.ensures ∙ c.if-not-is_room.false in
     let len : length h.samples ≡ length c.trace.new.letters = held_length w.table s.whole ∙ sym (c.trace.auto.letters ∙ part_length c.args.place w.table.held c.args.buffer.now fits) in
@@ -56,7 +56,7 @@ returns g c =
     let h = held_of w.table in
     let buf = c.args.buffer.now in
     let lawful = g.met.T.Trellis.lawful w.trellis in
-    let s : Sound g.T.Trellis.meaning g.M.Measure.costs w = subst (Sound g.T.Trellis.meaning g.M.Measure.costs) c.args.self.now.same c.tell.ensures in
+    let s = sound_from g.T.Trellis.meaning g.M.Measure.costs w (g.met.T.Trellis.lawful w.trellis) c.args.self.now.settles in
     let some = subst (StandsAt d p h.start h.end h.samples) (sym c.in_ok-standing.ensures.value) s.stands in
     let n : length h.samples ≡ w.table.held = held_length w.table s.whole in
     let fits : has_room w.table.held c.args.place (length buf) ≡ true = sym c.is_room.ensures ∙ c.if-not-is_room.false in
