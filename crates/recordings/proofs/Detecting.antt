@@ -30,25 +30,25 @@ module _ (d : Diagram) (cost : ℤ → ℤ → ℕ) (h : Held) (at place : ℕ) 
 
   no_by : (o : Option Path) (room : Bool) (e : Refusal) → None ≡ if_reported o room (report_of d cost h) → refusal_number e ≡ path_check o room → new ≡ written o room at old →
       (Err (call_fault (refusal_number e) place) ≡ outcome_in (found o room)) × (new ≡ buffer_after (found o room) at old)
-  no-by None room e v c w = (ap (λ n. Err (call_fault n place)) c, w)
-  no-by (Some p) true e v c w = absurd (never {x = report_of d cost h p} refl (sym v))
-  no-by (Some p) false e v c w = (ap (λ n. Err (call_fault n place)) c, w)
+  no_by None room e v c w = (ap (λ n. Err (call_fault n place)) c, w)
+  no_by (Some p) true e v c w = absurd (never {x = report_of d cost h p} refl (sym v))
+  no_by (Some p) false e v c w = (ap (λ n. Err (call_fault n place)) c, w)
 
   pub detects_no : (e : Refusal) → None ≡ if_reported (reported_path d cost h) (has_room (length h.samples) at (length old)) (report_of d cost h) →
       refusal_number e ≡ path_check (reported_path d cost h) (has_room (length h.samples) at (length old)) → new ≡ written (reported_path d cost h) (has_room (length h.samples) at (length old)) at old →
       Detects d cost h at place old new (Err (call_fault (refusal_number e) place))
-  detects-no e v c w = let b = no-by (reported_path d cost h) (has_room (length h.samples) at (length old)) e v c w in record { value = b.0; letters = b.1 }
+  detects_no e v c w = let b = no_by (reported_path d cost h) (has_room (length h.samples) at (length old)) e v c w in record { value = b.0; letters = b.1 }
 
   yes_by : (o : Option Path) (room : Bool) (r : Report) (n m : ℕ) → Some r ≡ if_reported o room (report_of d cost h) → new ≡ written o room at old → n ≡ length h.samples →
       m ≡ (path_sum d cost counting h.start h.end h.samples).value → (Ok (record { samples = n; paths = m; report = r }) ≡ outcome_in (found o room)) × (new ≡ buffer_after (found o room) at old)
-  yes-by None room r n m v w ns ms = absurd (never (sym v) refl)
-  yes-by (Some p) true r n m v w ns ms = let rs : r ≡ report_of d cost h p = cc in (ap Ok (same_outcome n _ m _ r _ ns ms rs), w)
-  yes-by (Some p) false r n m v w ns ms = absurd (never (sym v) refl)
+  yes_by None room r n m v w ns ms = absurd (never (sym v) refl)
+  yes_by (Some p) true r n m v w ns ms = let rs : r ≡ report_of d cost h p = cc in (ap Ok (same_outcome n _ m _ r _ ns ms rs), w)
+  yes_by (Some p) false r n m v w ns ms = absurd (never (sym v) refl)
 
   pub detects_yes : (r : Report) (n m : ℕ) → Some r ≡ if_reported (reported_path d cost h) (has_room (length h.samples) at (length old)) (report_of d cost h) →
       new ≡ written (reported_path d cost h) (has_room (length h.samples) at (length old)) at old → n ≡ length h.samples → m ≡ (path_sum d cost counting h.start h.end h.samples).value →
       Detects d cost h at place old new (Ok (record { samples = n; paths = m; report = r }))
-  detects-yes r n m v w ns ms = let b = yes-by (reported_path d cost h) (has_room (length h.samples) at (length old)) r n m v w ns ms in record { value = b.0; letters = b.1 }
+  detects_yes r n m v w ns ms = let b = yes_by (reported_path d cost h) (has_room (length h.samples) at (length old)) r n m v w ns ms in record { value = b.0; letters = b.1 }
 
 -- the same of another record that holds the same
 pub detects_alike : (d d' : Diagram) (cost cost' : ℤ → ℤ → ℕ) (h h' : Held) (at place : ℕ) (old new : List ℕ) (o : Result Outcome Refused) → d' ≡ d → cost' ≡ cost → h' ≡ h →

@@ -7,10 +7,10 @@ use Rattle.recordings.proofs.steps.read_blocks.Goals as goal
 pub loop-payload-preserved : goal.loop-payload-preserved
 loop-payload-preserved g c =
     let l = c.loop-payload in
-    let b = c.in-ok-payload.ensures in
+    let b = c.in_ok-payload.ensures in
     let is = c.in-Samples-default.is-0 in
-    let t = c.in-ok-take-samples.ensures in (
-      blocks_more c.args.recording.now l.place c.in-ok-payload.field-0.1 c.in-Samples-default.payload.now (held_of l.record.table) (held_of c.take-samples.new.record.table)
+    let t = c.in_ok-take_samples.ensures in (
+      blocks_more c.args.recording.now l.place c.in_ok-payload.field-0.1 c.in-Samples-default.payload.now (held_of l.record.table) (held_of c.take_samples.new.record.table)
           (ap (λ k. Ok (content k)) (sym is) ∙ b.value) (b.next ∙ ap (λ k. next_place l.place (content k)) is) t.held ∙ l.invariant.0,
       t.trellis ∙ l.invariant.1,
       t.measure ∙ l.invariant.2,
