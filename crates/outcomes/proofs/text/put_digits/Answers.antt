@@ -7,7 +7,7 @@ pub loop-letter-preserved : goal.loop-letter-preserved
 loop-letter-preserved c =
     let l = c.loop-letter in
     let ls = c.args.letters.now in
-    let step : vec_items c.put-number.new.out ≡ vec_items l.out ++ decimal (get_or ls l.letter-index 0) = c.in-ok-put-number.ensures ∙ ap (λ n. vec_items l.out ++ decimal n) c.from.ensures in
+    let step : vec_items c.put_number.new.out ≡ vec_items l.out ++ decimal (get_or ls l.letter-index 0) = c.in_ok-put_number.ensures ∙ ap (λ n. vec_items l.out ++ decimal n) c.from.ensures in
     let more : with_digits (vec_items l.out) (drop l.letter-index ls) ≡ with_digits (vec_items l.out ++ decimal (get_or ls l.letter-index 0)) (drop (l.letter-index + 1) ls) =
     at_drop_more (with_digits (vec_items l.out)) ls l.letter-index 0 c.loop-letter-test.true in
     ap (λ text. with_digits text (drop (l.letter-index + 1) ls)) step ∙ sym more ∙ l.invariant
