@@ -1,5 +1,5 @@
 -- The run-length limit from state 0 back to 0 on three samples has one path, and a single path is the cheapest.
-use Rattle.std.proofs.Common.{◌≡◌, ℕ, ◌+◌, ◌%◌, ◌^◌, true, cond, ◌&&◌, List, [], ◌∷◌, length, ℤ, pos, None, ap, ap₂, le_refl, zero-add, le-leb}
+use Rattle.std.proofs.Common.{◌≡◌, ℕ, ◌+◌, ◌%◌, ◌^◌, true, cond, ◌&&◌, [], ◌∷◌, length, ℤ, pos, None, ap, ap₂, le_refl, zero-add, le-leb}
 use Rattle.trellises.specs.Examples.{two_three}
 use Rattle.paths.specs.Paths.{Path, path_cost}
 use Rattle.paths.specs.Cheapest.{cheapest_of, first_of}

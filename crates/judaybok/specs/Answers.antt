@@ -3,7 +3,6 @@ use Rattle.std.specs.Prelude.{ℕ, Some, None, Ok, Err, Option, Result}
 use Rattle.std.specs.Option.{unwrap_or}
 use Rattle.model.specs.Refusals.{Refused}
 use Rattle.paths.specs.Paths.{Path}
-use Rattle.records.specs.declared.report.Report.{Report}
 use Rattle.recordings.specs.declared.outcome.Outcome.{Outcome}
 use Rattle.recordings.specs.Recordings.{outcome_in}
 use Rattle.judaybok.specs.declared.answer.JudaybokAnswer.{JudaybokAnswer}

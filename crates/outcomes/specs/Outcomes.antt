@@ -3,7 +3,6 @@ use Rattle.std.specs.Prelude.{ℕ, Bool, true, false, List, [], ◌∷◌, ◌++
 use Rattle.model.specs.Refusals.{Refused}
 use Rattle.paths.specs.Paths.{Path}
 use Rattle.listings.specs.Listings.{with_line, refusal_text}
-use Rattle.records.specs.declared.report.Report.{Report}
 use Rattle.recordings.specs.declared.outcome.Outcome.{Outcome}
 use Rattle.recordings.specs.Recordings.{outcome_in, buffer_after}
 

@@ -11,7 +11,7 @@ use Rattle.setups.specs.declared.setup.TrellisSetup.{TrellisSetup}
 use Rattle.setups.specs.declared.setup.TrellisSetup.TheVariants.{Taps, Code, CodeOverTaps, RllOverTaps}
 use Rattle.descriptions.specs.Channels.{channel_of}
 use Rattle.descriptions.specs.Checks.{About, trellis_answers, other_answers, anchor_answer, Passes}
-use Rattle.records.specs.Held.{Held, new_held, is_named, if_accepted, taken}
+use Rattle.records.specs.Held.{Held, new_held, is_named, if_accepted}
 use Rattle.recordings.specs.Recordings.{call_fault, take_all, held_at_first}
 use Rattle.recordings.specs.Recorded.{held_in}
 

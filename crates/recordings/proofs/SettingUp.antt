@@ -1,5 +1,5 @@
 -- The first block of a recording. Assumes nothing.
-use Rattle.std.proofs.Common.{◌≡◌, ℕ, true, List, take, drop, Ok, Err, Result, sym, refl, ap, ◌∙◌}
+use Rattle.std.proofs.Common.{◌≡◌, ℕ, true, List, take, drop, Ok, Err, Result, sym, ap, ◌∙◌}
 use Rattle.model.specs.Refusals.{Refused}
 use Rattle.setups.specs.declared.setup.Setup.{Setup}
 use Rattle.setups.specs.Lines.{follow}

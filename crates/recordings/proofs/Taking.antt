@@ -1,5 +1,5 @@
 -- Taking the samples of a block, one after another. Assumes nothing.
-use Rattle.std.proofs.Common.{◌≡◌, ℕ, zero, suc, ◌+◌, ◌<◌, ◌≤◌, Bool, true, false, cond, eqb, List, [], ◌∷◌, length, drop, ℤ, Some, None, Ok, Err, sym, refl, ap, ◌∙◌, add-one, arith, lit<, eq-eqb}
+use Rattle.std.proofs.Common.{◌≡◌, ℕ, zero, suc, ◌+◌, ◌<◌, cond, List, [], ◌∷◌, drop, ℤ, Some, None, Ok, Err, sym, refl, ap, ◌∙◌, add-one, arith, lit<, eq-eqb}
 use Rattle.std.proofs.lemmas.Bool.{ne_eqb}
 use Rattle.std.specs.List.{slice_get}
 use Rattle.model.specs.declared.refusal.Refusal.{Refusal}

@@ -1,5 +1,5 @@
 -- What a report says of the first path. Assumes nothing.
-use Rattle.std.proofs.Common.{◌≡◌, ℕ, ◌+◌, ◌-◌, ◌*◌, ◌%◌, ◌^◌, ◌<◌, ◌≤◌, min, Bool, true, false, cond, not, T, eqb, List, ◌++◌, length, take, drop, ℤ, Some, None, Ok, Err, Option, Result, unwrap_or, sym, refl, ap, ◌∙◌, subst, arith, eqb→eq, length-drop, length-take, drop-drop, leb-true}
+use Rattle.std.proofs.Common.{◌≡◌, ℕ, ◌+◌, ◌-◌, ◌%◌, ◌^◌, ◌≤◌, Bool, true, false, not, T, List, ◌++◌, length, take, drop, ℤ, Some, None, Ok, Err, Option, Result, unwrap_or, sym, refl, ap, ◌∙◌, subst, arith, eqb→eq, length-drop, length-take, drop-drop, leb-true}
 use borrow.Rule.Slice.PartMut.{put_mid}
 use Rattle.std.specs.Result.{result_ok}
 use Rattle.model.specs.declared.refusal.Refusal.{Refusal}
@@ -14,7 +14,7 @@ use Rattle.survivors.specs.declared.standing.Standing.{Standing}
 use Rattle.survivors.proofs.Firsts.{ends_at}
 use Rattle.records.specs.declared.report.Report.{Report}
 use Rattle.records.specs.Held.{Held}
-use Rattle.records.specs.Reports.{has_room, path_check, if_reported, written, with_letters, report_from, report_of, reported_path, Reports, AnswersReport}
+use Rattle.records.specs.Reports.{has_room, path_check, if_reported, written, with_letters, report_from, report_of, reported_path, AnswersReport}
 
 -- ---- the first path
 

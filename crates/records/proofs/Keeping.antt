@@ -1,12 +1,10 @@
 -- What the calls of a listening record leave in its table. Assumes nothing.
-use Rattle.std.proofs.Common.{◌≡◌, ℕ, zero, suc, ◌+◌, ◌^◌, ◌<◌, ◌≤◌, Bool, true, false, cond, ◌&&◌, ltb, leb, List, [], ◌∷◌, length, take, set, ℤ, pos, negsuc, Some, None, Option, sym, refl, ap, ◌∙◌, subst, arith, length-set, length-take, take_all, take-take, le-ltb, lt-ltb, le-leb}
-use borrow.Author.Tests.{lt-leb}
+use Rattle.std.proofs.Common.{◌≡◌, ℕ, ◌+◌, ◌<◌, ◌≤◌, Bool, true, false, cond, ◌&&◌, ltb, leb, length, take, set, ℤ, Some, None, Option, sym, refl, arith, length-take, take_all, take-take, le-ltb, lt-ltb, le-leb}
 use Rattle.std.proofs.lemmas.List.{take_more_set}
 use Rattle.model.specs.Trellises.{Diagram}
 use Rattle.paths.proofs.Listing.{never}
-use Rattle.survivors.specs.Choices.{most_samples, table_size}
 use Rattle.records.specs.declared.table.Table.{Table}
-use Rattle.records.specs.Held.{Held, is_named, named, both_named, named_check, anchor_check, anchored, take_check, taken, rewind_check, rewound}
+use Rattle.records.specs.Held.{is_named, named, both_named, named_check, anchor_check, anchored, take_check, taken, rewind_check, rewound}
 use Rattle.records.specs.Tables.{Whole, held_of}
 
 pub held_length : (t : Table) → Whole t → length (take t.held t.samples) ≡ t.held

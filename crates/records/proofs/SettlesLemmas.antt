@@ -1,9 +1,9 @@
 -- Settled work by paths, and by the definitions: each gives the other.
-use Rattle.std.proofs.Common.{◌≡◌, ℕ, ◌+◌, ◌%◌, ◌^◌, true, List, length, take, ℤ, Some, None, Option, unwrap_or, sym, refl, ap, ◌∙◌, subst}
+use Rattle.std.proofs.Common.{◌≡◌, ℕ, ◌+◌, List, length, take, ℤ, Some, None, Option, unwrap_or, sym, refl, ap, ◌∙◌, subst}
 use Rattle.model.specs.Trellises.{Diagram, Lawful}
-use Rattle.paths.specs.Paths.{Path, Admissible, last_state, permits, path_cost}
-use Rattle.paths.specs.Cheapest.{ties, first_path, second}
-use Rattle.paths.specs.Laws.{First, HasNoPath, IsFirst}
+use Rattle.paths.specs.Paths.{Path, last_state}
+use Rattle.paths.specs.Cheapest.{first_path}
+use Rattle.paths.specs.Laws.{First, IsFirst}
 use Rattle.paths.proofs.Firsts.{first_found}
 use Rattle.survivors.specs.Choices.{last_byte}
 use Rattle.survivors.specs.Traces.{StandsAt}
@@ -11,7 +11,6 @@ use Rattle.survivors.specs.declared.standing.Standing.{Standing}
 use Rattle.survivors.proofs.Pushes.{arrives, admit}
 use Rattle.survivors.proofs.Firsts.{ends_at}
 use Rattle.records.specs.declared.work.Work.{Work}
-use Rattle.records.specs.Held.{Held}
 use Rattle.records.specs.Tables.{held_of}
 use Rattle.records.specs.Sound.{Sound}
 use Rattle.records.specs.Settles.{standing_of, Settles}

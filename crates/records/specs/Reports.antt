@@ -6,7 +6,7 @@ use Rattle.model.specs.declared.refusal.Refusal.TheVariants.{NoPath, BufferShort
 use Rattle.model.specs.Refusals.{refusal_number, answer}
 use Rattle.model.specs.Trellises.{Diagram}
 use Rattle.paths.specs.Paths.{Path, Admissible, last_state, path_cost}
-use Rattle.paths.specs.Cheapest.{cheapest_paths, ties, first_path, second}
+use Rattle.paths.specs.Cheapest.{ties, first_path, second}
 use Rattle.paths.specs.Laws.{Ahead, HasNoPath, ListsCheapest, IsSecond}
 use Rattle.survivors.specs.declared.standing.Standing.{Standing}
 use Rattle.records.specs.declared.report.Report.{Report}

@@ -1,5 +1,5 @@
 -- What a list of calls leaves of start, end and samples, by the rules alone.
-use Rattle.std.specs.Prelude.{ℕ, suc, min, Bool, true, false, cond, not, ◌&&◌, List, [], ◌∷◌, length, ℤ, Some, None, fold, Option, nat_le}
+use Rattle.std.specs.Prelude.{ℕ, suc, min, Bool, true, false, cond, not, ◌&&◌, List, [], ◌∷◌, length, ℤ, fold, nat_le}
 use Rattle.model.specs.declared.refusal.Refusal.TheVariants.{RowShort}
 use Rattle.model.specs.Refusals.{refusal_number}
 use Rattle.model.specs.Trellises.{Diagram}

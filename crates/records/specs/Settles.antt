@@ -8,7 +8,6 @@ use Rattle.paths.specs.Cheapest.{ties, first_path, second}
 use Rattle.survivors.specs.Choices.{most_samples, byte_at, last_byte}
 use Rattle.survivors.specs.declared.standing.Standing.{Standing}
 use Rattle.records.specs.declared.work.Work.{Work}
-use Rattle.records.specs.Held.{Held}
 use Rattle.records.specs.Tables.{Whole, held_of}
 
 -- where a path ends, what it costs, how many paths cost as little as the cheapest, and the least cost of the others; nothing where there is no path

@@ -4,7 +4,6 @@ use Rattle.model.specs.Trellises.{Diagram}
 use Rattle.survivors.specs.Choices.{TableOf}
 use Rattle.survivors.specs.Traces.{StandsAt}
 use Rattle.records.specs.declared.work.Work.{Work}
-use Rattle.records.specs.Held.{Held}
 use Rattle.records.specs.Tables.{Whole, held_of}
 
 pub record Sound {X Y : Type 0} (meaning : X → Diagram) (costs : Y → ℤ → ℤ → ℕ) (w : Work X Y) : Type 0 where

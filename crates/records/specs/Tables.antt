@@ -1,5 +1,5 @@
 -- The plain table of a record.
-use Rattle.std.specs.Prelude.{◌≡◌, ℕ, ◌≤◌, length, take}
+use Rattle.std.specs.Prelude.{◌≡◌, ◌≤◌, length, take}
 use Rattle.survivors.specs.Choices.{most_samples, table_size}
 use Rattle.records.specs.declared.table.Table.{Table}
 use Rattle.records.specs.Held.{Held}

@@ -1,4 +1,4 @@
-use Rattle.std.proofs.Common.{◌≡◌, suc, length, sym, ap, ◌∙◌, subst, rules}
+use Rattle.std.proofs.Common.{suc, length, ap, ◌∙◌, subst, rules}
 use Rattle.model.specs.Trellises.{Lawful}
 use Rattle.measures.specs.Erasings.{erasing}
 use Rattle.descriptions.specs.Channels.{channel_meaning, measure_meaning}

@@ -1,7 +1,7 @@
-use Rattle.std.proofs.Common.{◌≡◌, length, Err, sym, ap, ◌∙◌, subst}
+use Rattle.std.proofs.Common.{length, Err, sym, ap, ◌∙◌}
 use Rattle.records.specs.Tables.{held_of}
 use Rattle.records.specs.Held.{Held}
-use Rattle.recordings.proofs.Detecting.{Detects, detects_no, detects_yes, detects_alike}
+use Rattle.recordings.proofs.Detecting.{detects_no, detects_yes, detects_alike}
 use Rattle.recordings.proofs.steps.detect_at.Goals as goal
 
 pub returns-in-Err : goal.returns-in-Err

@@ -1,4 +1,4 @@
-use Rattle.std.proofs.Common.{◌≡◌, Ok, sym, ap, ◌∙◌}
+use Rattle.std.proofs.Common.{Ok, sym, ap, ◌∙◌}
 use Rattle.records.specs.Tables.{held_of}
 use Rattle.blocks.specs.Blocks.{content, next_place}
 use Rattle.recordings.proofs.BlockLists.{blocks_more}

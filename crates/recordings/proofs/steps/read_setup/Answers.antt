@@ -1,4 +1,3 @@
-use Rattle.std.proofs.Common.{◌≡◌}
 use Rattle.std.proofs.lemmas.Result.{err_from_is_err_and}
 use Rattle.blocks.specs.Blocks.{content}
 use Rattle.recordings.proofs.SettingUp.{set_up_is, set_up_ok, set_up_err}

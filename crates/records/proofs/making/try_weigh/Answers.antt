@@ -1,4 +1,4 @@
-use Rattle.std.proofs.Common.{◌≡◌, min, length, take, ◌∙◌, arith, length-take}
+use Rattle.std.proofs.Common.{◌∙◌, arith, length-take}
 use Rattle.std.proofs.lemmas.Result.{err_from_is_err_and}
 use Rattle.records.proofs.Runs.{rows_cut}
 use Rattle.records.proofs.making.try_weigh.Goals as goal

@@ -1,4 +1,4 @@
-use Rattle.std.proofs.Common.{◌≡◌, ◌+◌, drop, sym, ap, ◌∙◌, subst, arith}
+use Rattle.std.proofs.Common.{◌+◌, drop, sym, ap, ◌∙◌, arith}
 use Rattle.records.specs.Runs.{allowed_from}
 use Rattle.records.proofs.Runs.{allowed_no, allowed_yes, allowed_all}
 use Rattle.records.proofs.replay.count_allowed.Goals as goal

@@ -1,4 +1,4 @@
-use Rattle.std.proofs.Common.{◌≡◌, ◌<◌, take, sym, ap, ◌∙◌, subst, arith, take_all}
+use Rattle.std.proofs.Common.{◌≡◌, ◌<◌, take, ap, ◌∙◌, arith, take_all}
 use Rattle.records.specs.Runs.{allowed, settled_after, held_after}
 use Rattle.records.specs.Records.{is_settled, held_in, trellis_of}
 use Rattle.records.proofs.Runs.{run_more}

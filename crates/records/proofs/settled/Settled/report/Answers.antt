@@ -1,11 +1,11 @@
-use Rattle.std.proofs.Common.{◌≡◌, true, cond, length, take, is_some, Some, None, sym, ap, ◌∙◌, subst, rules}
+use Rattle.std.proofs.Common.{◌≡◌, true, cond, length, is_some, None, sym, ap, ◌∙◌, subst}
 use Rattle.std.proofs.lemmas.Result.{err_from_is_err_and}
 use Rattle.survivors.specs.Traces.{StandsAt}
 use Rattle.records.specs.Tables.{held_of}
 use Rattle.records.specs.Reports.{has_room}
 use Rattle.records.proofs.Keeping.{held_length}
 use Rattle.records.proofs.SettlesLemmas.{sound_from}
-use Rattle.records.proofs.FirstReports.{Shown, shown_none, shown_short, shown_path, put_letters, part_length}
+use Rattle.records.proofs.FirstReports.{shown_none, shown_short, shown_path, put_letters, part_length}
 use Rattle.records.proofs.settled.Settled.report.Goals as goal
 
 pub returns-in_err-standing : goal.returns-in_err-standing
