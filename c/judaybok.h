@@ -1,8 +1,8 @@
 /*
  * Judaybok: the likeliest letters behind a recording of samples.
  *
- * Link with libjudaybok.a (made by `rt staticlib judaybok` in the repository's root). Nothing else is needed: the
- * library allocates no memory, keeps no state, and calls nothing of the operating system.
+ * Link with libjudaybok.a (made by `rt lib` in the folder crates/judaybok, as out/libjudaybok.a there). Nothing else is
+ * needed: the library allocates no memory, keeps no state, and calls nothing of the operating system.
  */
 #ifndef JUDAYBOK_H
 #define JUDAYBOK_H
