@@ -7,7 +7,7 @@ use Rattle.paths.specs.declared.branch.ListedBranch.{ListedBranch}
 use Rattle.paths.specs.Sums.{total}
 use Rattle.paths.specs.Rows.{Entries}
 use Rattle.paths.specs.Branches.{Within}
-use Rattle.paths.specs.FlatRecursion.{branch_brings, with_branch, with_branches}
+use Rattle.paths.specs.FlatRecursion.{branch_brings, with_listed_branch, with_branches}
 use Rattle.paths.proofs.Totals.{plus_zero}
 use Rattle.paths.proofs.Rowing.{at_place}
 
@@ -23,7 +23,7 @@ module _ {W : Type 0} (r : Semiring W) (laws : Laws r) where
     extended (b ∷ bs) ws i h =
         let v = r.times (row b.from) (r.weight (cost b.label x)) in
         let lt : b.next < n = i.0.1 in
-        let more = extended bs (with_branch cost r x row ws b) i.1 (simp length-set h) in
+        let more = extended bs (with_listed_branch cost r x row ws b) i.1 (simp length-set h) in
         record {
           entry = λ k e l.
               more.entry k e l

@@ -10,7 +10,7 @@ use Rattle.paths.specs.declared.branch.ListedBranch.{ListedBranch}
 use Rattle.paths.specs.Listings.{below}
 use Rattle.paths.specs.Branches.{listed, branches_from, branches_of}
 use Rattle.survivors.specs.Survivors.{pick, scan, offer, offered, offered_by, best, best_of, cost_in, byte_in}
-use Rattle.survivors.specs.Reaches.{unreached, as_cost, reached_at, Kept, Capped, Low}
+use Rattle.survivors.specs.Reaches.{unreached, as_cost, reached_at, KeptNumbers, Capped, LowNumbers}
 use Rattle.paths.proofs.Listing.{never}
 use Rattle.survivors.proofs.Pushes.{same_some}
 
@@ -94,7 +94,7 @@ module _ (cost : ℤ → ℤ → ℕ) (x : ℤ) (from : List ℕ) (n : ℕ) (b :
   abbrev bytes' : List ℕ
   bytes' = set bytes t (cond (ltb (u + w) v) b.byte (get_or bytes t 0))
 
-  module _ (room : u < unreached → u + w < unreached) (f : ℕ → Option (ℕ × ℕ)) (kept : Kept n f row bytes) where
+  module _ (room : u < unreached → u + w < unreached) (f : ℕ → Option (ℕ × ℕ)) (kept : KeptNumbers n f row bytes) where
     abbrev g : ℕ → Option (ℕ × ℕ)
     g k = pick (f k) b.byte (offered_by cost x (reached_at from) k b)
 
@@ -121,7 +121,7 @@ module _ (cost : ℤ → ℤ → ℕ) (x : ℤ) (from : List ℕ) (n : ℕ) (b :
         get_or-set_other bytes t k (cond (ltb (u + w) v) b.byte (get_or bytes t 0)) 0 (eqb-false k t p) ∙ kept.byte k
         ∙ ap (λ o. byte_in (pick (f k) b.byte o)) (sym (offer_at cost x k t b.label (as_cost u) false p))
 
-    pub kept_branch : Kept n g row' bytes'
+    pub kept_branch : KeptNumbers n g row' bytes'
     kept_branch = record { cost = λ k l. at_cost k l (eqb k t) refl; byte = λ k. at_byte k (eqb k t) refl }
 
   -- what holds of both numbers holds of the one that is kept
@@ -143,7 +143,7 @@ module _ (cost : ℤ → ℤ → ℕ) (x : ℤ) (from : List ℕ) (n : ℕ) (b :
   pub capped_branch : Capped n row'
   capped_branch = set_all (λ z. z ≤ unreached) _ (either (λ z. z ≤ unreached) (λ l. let c : v ≤ unreached = cap t inside in omega arith) (cap t inside)) cap
 
-  pub low_branch : (m : ℕ) → ((c : ℕ) → as_cost u ≡ Some c → c + w ≤ m) → Low n m row → Low n m row'
+  pub low_branch : (m : ℕ) → ((c : ℕ) → as_cost u ≡ Some c → c + w ≤ m) → LowNumbers n m row → LowNumbers n m row'
   low_branch m h low k c l e =
       set_all (λ z. (c : ℕ) → as_cost z ≡ Some c → c ≤ m) _
       (either (λ z. (c : ℕ) → as_cost z ≡ Some c → c ≤ m)
@@ -152,7 +152,7 @@ module _ (cost : ℤ → ℤ → ℕ) (x : ℤ) (from : List ℕ) (n : ℕ) (b :
       (λ j i c p. low j c i p) k l c e
 
 -- before any branch
-pub kept_none : (cost : ℤ → ℤ → ℕ) (x : ℤ) (from row bytes : List ℕ) (n : ℕ) → ((k : ℕ) → k < n → get_or row k 0 ≡ unreached) → ((k : ℕ) → get_or bytes k 0 ≡ 0) → Kept n (best_of cost x (reached_at from) []) row bytes
+pub kept_none : (cost : ℤ → ℤ → ℕ) (x : ℤ) (from row bytes : List ℕ) (n : ℕ) → ((k : ℕ) → k < n → get_or row k 0 ≡ unreached) → ((k : ℕ) → get_or bytes k 0 ≡ 0) → KeptNumbers n (best_of cost x (reached_at from) []) row bytes
 unfolding best_of
 kept_none cost x from row bytes n clear zeros = record { cost = λ k l. ap as_cost (clear k l); byte = zeros }
 
@@ -163,7 +163,7 @@ best_more cost x row bs i b h k = sym (fold_more (λ o e. pick o e.byte (offered
 
 -- ---- a list of branches as a scan over bytes
 
-pub kept_same : (n : ℕ) (f g : ℕ → Option (ℕ × ℕ)) (row bytes : List ℕ) → ((k : ℕ) → f k ≡ g k) → Kept n f row bytes → Kept n g row bytes
+pub kept_same : (n : ℕ) (f g : ℕ → Option (ℕ × ℕ)) (row bytes : List ℕ) → ((k : ℕ) → f k ≡ g k) → KeptNumbers n f row bytes → KeptNumbers n g row bytes
 kept_same n f g row bytes h kept = record { cost = λ k l. kept.cost k l ∙ ap cost_in (h k); byte = λ k. kept.byte k ∙ ap byte_in (h k) }
 
 folded_append : {A B : Type 0} (f : B → A → B) (a : B) (xs ys : List A) → fold f a (xs ++ ys) ≡ fold f (fold f a xs) ys
@@ -227,6 +227,6 @@ module _ (d : Diagram) (lawful : Lawful d) (cost : ℤ → ℤ → ℕ) (x : ℤ
   unfolding best_of best branches_of
   best_same = states_more d.states
 
-pub kept_best : (d : Diagram) → Lawful d → (cost : ℤ → ℤ → ℕ) (x : ℤ) (from row bytes : List ℕ) (n : ℕ) (bs : List ListedBranch) → bs ≡ branches_of d → Kept n (best_of cost x (reached_at from) bs) row bytes → Kept n (best d cost x (reached_at from)) row bytes
+pub kept_best : (d : Diagram) → Lawful d → (cost : ℤ → ℤ → ℕ) (x : ℤ) (from row bytes : List ℕ) (n : ℕ) (bs : List ListedBranch) → bs ≡ branches_of d → KeptNumbers n (best_of cost x (reached_at from) bs) row bytes → KeptNumbers n (best d cost x (reached_at from)) row bytes
 kept_best d lawful cost x from row bytes n bs e kept =
     kept_same n (best_of cost x (reached_at from) bs) (best d cost x (reached_at from)) row bytes (λ k. ap (λ z. best_of cost x (reached_at from) z k) e ∙ best_same d lawful cost x (reached_at from) k) kept

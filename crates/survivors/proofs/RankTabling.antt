@@ -11,7 +11,7 @@ use Rattle.paths.specs.Paths.{permits}
 use Rattle.survivors.specs.Choices.{Chosen, Costs, TableOf, byte_at}
 use Rattle.survivors.specs.Survivors.{best, byte_in, opening}
 use Rattle.survivors.specs.Rows.{Zeros, Tabled}
-use Rattle.survivors.specs.Reaches.{unreached, as_cost, reached_at, Kept, Low, Rising, Costed}
+use Rattle.survivors.specs.Reaches.{unreached, as_cost, reached_at, KeptNumbers, LowNumbers, RisingNumbers, CostedNumbers}
 use Rattle.paths.proofs.Listing.{never}
 use Rattle.survivors.proofs.Pushes.{same_some}
 use Rattle.survivors.proofs.Bests.{best_costs, best_chosen, best_past, opening_costs}
@@ -46,27 +46,27 @@ opening_as start row s e = ap as_cost e ∙ elim (permits start s) as (λ b. as_
 pub opening_capped : (start : Option ℕ) (row : List ℕ) (s : ℕ) → get_or row s 0 ≡ opening_number start s → get_or row s 0 ≤ unreached
 opening_capped start row s e = subst (λ z. z ≤ unreached) (sym e) (elim (permits start s) as (λ b. cond b 0 unreached ≤ unreached) [ true ↦ omega arith | false ↦ omega arith ])
 
-pub costed_none : (d : Diagram) (cost : ℤ → ℤ → ℕ) (start : Option ℕ) (row : List ℕ) → ((k : ℕ) → k < d.states → reached_at row k ≡ opening start k) → Costed d cost start [] row
+pub costed_none : (d : Diagram) (cost : ℤ → ℤ → ℕ) (start : Option ℕ) (row : List ℕ) → ((k : ℕ) → k < d.states → reached_at row k ≡ opening start k) → CostedNumbers d cost start [] row
 costed_none d cost start row h s l = subst (Costs d cost start [] s) (sym (h s l)) (opening_costs d cost start s l)
 
-pub low_none : (n : ℕ) (start : Option ℕ) (row : List ℕ) → ((k : ℕ) → k < n → reached_at row k ≡ opening start k) → Low n (0 * most_cost) row
+pub low_none : (n : ℕ) (start : Option ℕ) (row : List ℕ) → ((k : ℕ) → k < n → reached_at row k ≡ opening start k) → LowNumbers n (0 * most_cost) row
 low_none n start row h k c l e = go (permits start k) (sym (h k l) ∙ e)
   where
     go : (b : Bool) → cond b (Some 0) None ≡ Some c → c ≤ 0
     go true f = let z : 0 ≡ c = same_some refl f in omega arith
     go false f = absurd (never f refl)
 
-pub low_more : (k : ℕ) (row next : List ℕ) → Rising 64 row next → Low 64 (k * most_cost) row → Low 64 ((k + 1) * most_cost) next
+pub low_more : (k : ℕ) (row next : List ℕ) → RisingNumbers 64 row next → LowNumbers 64 (k * most_cost) row → LowNumbers 64 ((k + 1) * most_cost) next
 low_more k row next rise low s c l e = let q : c ≤ k * most_cost + most_cost = rise (k * most_cost) low s c l e in omega arith
 
 -- ---- one sample more
 
 module _ (d : Diagram) (lawful : Lawful d) (cost : ℤ → ℤ → ℕ) (start : Option ℕ) (xs : List ℤ) (k : ℕ) (lt : k < length xs) (row next bytes : List ℕ)
-    (at : Costed d cost start (take k xs) row) (kept : Kept 64 (best d cost (get_or xs k (pos 0)) (reached_at row)) next bytes) where
+    (at : CostedNumbers d cost start (take k xs) row) (kept : KeptNumbers 64 (best d cost (get_or xs k (pos 0)) (reached_at row)) next bytes) where
   more : take k xs ++ get_or xs k (pos 0) ∷ [] ≡ take (k + 1) xs
   more = sym (take_more xs k (pos 0) lt)
 
-  pub costed_more : Costed d cost start (take (k + 1) xs) next
+  pub costed_more : CostedNumbers d cost start (take (k + 1) xs) next
   costed_more s l =
       subst (λ ys. Costs d cost start ys s (reached_at next s)) more
       (subst (Costs d cost start (take k xs ++ get_or xs k (pos 0) ∷ []) s) (sym (kept.cost s (omega (arith, lawful.few_states)))) (best_costs d lawful cost start (take k xs) (get_or xs k (pos 0)) (reached_at row) at s))

@@ -21,7 +21,7 @@ use Rattle.survivors.specs.declared.rank.Rank.{Rank}
 use Rattle.model.specs.Ranges.{most_cost}
 use Rattle.paths.specs.Branches.{Within}
 use Rattle.survivors.specs.Survivors.{pick, offered_by, opening}
-use Rattle.survivors.specs.Reaches.{unreached, as_cost, reached_at, Kept, Capped}
+use Rattle.survivors.specs.Reaches.{unreached, as_cost, reached_at, KeptNumbers, Capped}
 use Rattle.survivors.proofs.RankRowing.{kept_branch}
 use Rattle.survivors.specs.Ranks.{widened, tied, two, nowhere, joined_rank, Sound, past, Sounds, costs_in, Brought, opening_rank}
 
@@ -273,14 +273,14 @@ module _ (cost : ℤ → ℤ → ℕ) (x : ℤ) (from row : List Rank) (bytes : 
   cap : Capped 64 (costs_in row)
   cap k l = let e : get_or (costs_in row) k 0 ≡ (get_or row k past).cost = cost_at row k (omega arith) in let s = (sr k l).sorted in let c = (sr k l).capped in omega arith
 
-  pub kept_rank : (g : ℕ → Option (ℕ × ℕ)) → Kept 64 g (costs_in row) bytes →
-      Kept 64 (λ k. pick (g k) b.byte (offered_by cost x (reached_at (costs_in from)) k b)) (costs_in into) (set bytes b.next (cond (ltb (f.cost + w) h.cost) b.byte (get_or bytes b.next 0)))
+  pub kept_rank : (g : ℕ → Option (ℕ × ℕ)) → KeptNumbers 64 g (costs_in row) bytes →
+      KeptNumbers 64 (λ k. pick (g k) b.byte (offered_by cost x (reached_at (costs_in from)) k b)) (costs_in into) (set bytes b.next (cond (ltb (f.cost + w) h.cost) b.byte (get_or bytes b.next 0)))
   kept_rank g kept =
       let so_far : ℕ → Option (ℕ × ℕ) = λ k. pick (g k) b.byte (offered_by cost x (reached_at (costs_in from)) k b) in
       let put : ℕ → ℕ → List ℕ = λ u v. set bytes b.next (cond (ltb (u + w) v) b.byte (get_or bytes b.next 0)) in
       let k = kept_branch cost x (costs_in from) 64 b (costs_in row) bytes inside.1 (simp length-map (omega arith)) lb cap (λ l. let p = room (omega (arith, eu)) in omega (arith, eu)) g kept in
-      subst (Kept 64 so_far (costs_in into)) (ap₂ put eu ev)
-      (subst (λ z. Kept 64 so_far z (put (get_or (costs_in from) b.from 0) (get_or (costs_in row) b.next 0)))
+      subst (KeptNumbers 64 so_far (costs_in into)) (ap₂ put eu ev)
+      (subst (λ z. KeptNumbers 64 so_far z (put (get_or (costs_in from) b.from 0) (get_or (costs_in row) b.next 0)))
       (ap (set (costs_in row) b.next) (ap₂ (λ u v. cond (ltb (u + w) v) (u + w) v) eu ev ∙ lesser_is (f.cost + w) h.cost) ∙ sym (map-set (λ a. a.cost) row b.next (joined_rank h f w)))
       k)
 

@@ -18,7 +18,7 @@ abbrev pub reached_at : List ℕ → ℕ → Option ℕ
 reached_at row s = as_cost (slice_index row s)
 
 -- the first n costs and all bytes are those of f
-pub record Kept (n : ℕ) (f : ℕ → Option (ℕ × ℕ)) (row bytes : List ℕ) : Type 0 where
+pub record KeptNumbers (n : ℕ) (f : ℕ → Option (ℕ × ℕ)) (row bytes : List ℕ) : Type 0 where
   pub cost : (k : ℕ) → k < n → reached_at row k ≡ cost_in (f k)
   pub byte : (k : ℕ) → slice_index bytes k ≡ byte_in (f k)
 
@@ -27,13 +27,13 @@ abbrev pub Capped : ℕ → List ℕ → Type 0
 Capped n row = (k : ℕ) → k < n → slice_index row k ≤ unreached
 
 -- no cost in the first n places of the row is above b
-abbrev pub Low : ℕ → ℕ → List ℕ → Type 0
-Low n b row = (k c : ℕ) → k < n → reached_at row k ≡ Some c → c ≤ b
+abbrev pub LowNumbers : ℕ → ℕ → List ℕ → Type 0
+LowNumbers n b row = (k c : ℕ) → k < n → reached_at row k ≡ Some c → c ≤ b
 
 -- where no cost in a row is above b, one sample later none is above b by more than a step costs
-abbrev pub Rising : ℕ → List ℕ → List ℕ → Type 0
-Rising n from row = (b : ℕ) → Low n b from → Low n (b + most_cost) row
+abbrev pub RisingNumbers : ℕ → List ℕ → List ℕ → Type 0
+RisingNumbers n from row = (b : ℕ) → LowNumbers n b from → LowNumbers n (b + most_cost) row
 
 -- the costs after the samples xs
-abbrev pub Costed : Diagram → (ℤ → ℤ → ℕ) → Option ℕ → List ℤ → List ℕ → Type 0
-Costed d cost start xs row = (s : ℕ) → s < d.states → Costs d cost start xs s (reached_at row s)
+abbrev pub CostedNumbers : Diagram → (ℤ → ℤ → ℕ) → Option ℕ → List ℤ → List ℕ → Type 0
+CostedNumbers d cost start xs row = (s : ℕ) → s < d.states → Costs d cost start xs s (reached_at row s)

@@ -8,7 +8,7 @@ ghost use Rattle.algebras.specs.TwoCosts.{two_cheapest};
 ghost use Rattle.paths.specs.Branches.{Within, branches_of};
 ghost use Rattle.survivors.specs.Survivors.{best, best_of};
 ghost use Rattle.survivors.specs.Rows.{Zeros};
-ghost use Rattle.survivors.specs.Reaches.{reached_at, Kept};
+ghost use Rattle.survivors.specs.Reaches.{reached_at, KeptNumbers};
 ghost use Rattle.survivors.specs.Ranks.{tied, two, nowhere, joined_rank, Sound, past, Sounds, costs_in, Brought};
 
 use crate::costs::UNREACHED;
@@ -71,7 +71,7 @@ fn extend<M: Measure>(
     requires sounds { Sounds (2 ^ 61) from.now }
     requires clear { (k : ℕ) → k < most_states → slice_index_or row.old k past ≡ nowhere }
     requires zeros { Zeros bytes.old }
-    ensures kept { Kept most_states (best_of (M.Measure.costs measure.now) sample (reached_at (costs_in from.now)) branches.now) (costs_in row.new) bytes.new }
+    ensures kept { KeptNumbers most_states (best_of (M.Measure.costs measure.now) sample (reached_at (costs_in from.now)) branches.now) (costs_in row.new) bytes.new }
     ensures tied { Brought cheapest_with_count tied (M.Measure.costs measure.now) sample from.now branches.now row.new }
     ensures two { Brought two_cheapest two (M.Measure.costs measure.now) sample from.now branches.now row.new }
     ensures sounds { (c : ℕ) → Sounds c from.now → Sounds (c + most_cost) row.new }
@@ -102,7 +102,7 @@ pub(crate) fn advance_ranks<T: Trellis, M: Measure>(
     requires sounds { Sounds (2 ^ 61) from.now }
     requires clear { (k : ℕ) → k < most_states → slice_index_or clear.now k past ≡ nowhere }
     requires zeros { Zeros bytes.old }
-    ensures kept { Kept most_states (best (T.Trellis.meaning trellis.now) (M.Measure.costs measure.now) sample (reached_at (costs_in from.now))) (costs_in row.new) bytes.new }
+    ensures kept { KeptNumbers most_states (best (T.Trellis.meaning trellis.now) (M.Measure.costs measure.now) sample (reached_at (costs_in from.now))) (costs_in row.new) bytes.new }
     ensures tied { Brought cheapest_with_count tied (M.Measure.costs measure.now) sample from.now (branches_of (T.Trellis.meaning trellis.now)) row.new }
     ensures two { Brought two_cheapest two (M.Measure.costs measure.now) sample from.now (branches_of (T.Trellis.meaning trellis.now)) row.new }
     ensures sounds { (c : ℕ) → Sounds c from.now → Sounds (c + most_cost) row.new }

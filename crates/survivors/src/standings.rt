@@ -7,7 +7,7 @@ ghost use Rattle.algebras.specs.CostCounts.{cheapest_with_count};
 ghost use Rattle.algebras.specs.TwoCosts.{two_cheapest};
 ghost use Rattle.survivors.specs.Choices.{most_samples, TableOf};
 ghost use Rattle.survivors.specs.Rows.{held, Zeros, Tabled};
-ghost use Rattle.survivors.specs.Reaches.{reached_at, Costed};
+ghost use Rattle.survivors.specs.Reaches.{reached_at, CostedNumbers};
 ghost use Rattle.survivors.specs.Ranks.{tied, two, Sound, past, Sounds, costs_in, opening_rank, Summed, gathered};
 ghost use Rattle.survivors.specs.Traces.{StandsAt};
 
@@ -57,7 +57,7 @@ fn rank_all<T: Trellis, M: Measure>(
     requires room { length samples.now * most_states ≤ length choices.old }
     requires zeros { Zeros choices.old }
     ensures len { length result ≡ most_states }
-    ensures row { Costed (T.Trellis.meaning trellis.now) (M.Measure.costs measure.now) start samples.now (costs_in result) }
+    ensures row { CostedNumbers (T.Trellis.meaning trellis.now) (M.Measure.costs measure.now) start samples.now (costs_in result) }
     ensures tied { Summed cheapest_with_count tied (T.Trellis.meaning trellis.now) (M.Measure.costs measure.now) start samples.now result }
     ensures two { Summed two_cheapest two (T.Trellis.meaning trellis.now) (M.Measure.costs measure.now) start samples.now result }
     ensures sounds { Sounds (2 ^ 61) result }

@@ -5,7 +5,7 @@ use Rattle.std.proofs.lemmas.List.Sums.{fold_more}
 use Rattle.std.proofs.lemmas.Int.{to_z-of_z}
 use Rattle.paths.specs.declared.branch.ListedBranch.{ListedBranch}
 use Rattle.paths.specs.Branches.{Within}
-use Rattle.paths.specs.FlatRecursion.{with_branch, with_branches}
+use Rattle.paths.specs.FlatRecursion.{with_listed_branch, with_branches}
 use Rattle.paths.proofs.flat_entries.extend_entries.Goals as goal
 
 abbrev none : ListedBranch
@@ -42,14 +42,14 @@ loop-branch-preserved g c =
     let w = All-get_or (Within (length from) (length c.args.row.now)) c.args.branches.now i none c.loop-branch-test.true c.requires in
     let inside : b.next < length row = omega (arith, c.loop-branch.auto.row, w.1) in
     let f : SFits w16 b.label = search rules in
-    let step : set row b.next c.plus.result ≡ with_branch m r x (λ s. get_or from s r.zero) row b = ap (set row b.next) (
+    let step : set row b.next c.plus.result ≡ with_listed_branch m r x (λ s. get_or from s r.zero) row b = ap (set row b.next) (
     c.plus.ensures
     ∙ ap₂ r.plus (c.index-row-next.is ∙ get_or_default row b.next c.index-row-next.result r.zero inside)
     (c.times-weight.ensures ∙ ap₂ r.times (c.index-from-branch.is ∙ get_or_default from b.from c.index-from-branch.result r.zero w.0)
     (c.weight-cost.ensures ∙ ap r.weight (c.cost.ensures ∙ ap (λ z. m z x) (to_z-of_z w16 b.label f))))) in
     step
-    ∙ ap (λ ws. with_branch m r x (λ s. get_or from s r.zero) ws b) c.loop-branch.invariant
-    ∙ sym (fold_more (with_branch m r x (λ s. get_or from s r.zero)) c.args.row.now c.args.branches.now i none c.loop-branch-test.true)
+    ∙ ap (λ ws. with_listed_branch m r x (λ s. get_or from s r.zero) ws b) c.loop-branch.invariant
+    ∙ sym (fold_more (with_listed_branch m r x (λ s. get_or from s r.zero)) c.args.row.now c.args.branches.now i none c.loop-branch-test.true)
 
 pub returns : goal.returns
 returns g c =

@@ -6,7 +6,7 @@ use Rattle.algebras.specs.TwoCosts.{two_cheapest}
 use Rattle.paths.specs.Branches.{Within, branches_of}
 use Rattle.paths.proofs.Branching.{all_within, within_more}
 use Rattle.survivors.specs.Survivors.{best}
-use Rattle.survivors.specs.Reaches.{reached_at, Kept}
+use Rattle.survivors.specs.Reaches.{reached_at, KeptNumbers}
 use Rattle.survivors.specs.Ranks.{tied, two, costs_in, Brought}
 use Rattle.survivors.proofs.RankRowing.{kept_best}
 use Rattle.survivors.proofs.ranks.advance_ranks.Goals as goal
@@ -34,7 +34,7 @@ returns g c =
     let bytes = c.extend.new.bytes in
     let same = to_z-of_z w16 c.args.sample c.ranges.sample in
     record {
-      kept = subst (λ z. Kept 64 (best d p z (reached_at (costs_in from))) (costs_in row) bytes) same
+      kept = subst (λ z. KeptNumbers 64 (best d p z (reached_at (costs_in from))) (costs_in row) bytes) same
           (kept_best d lawful p x (costs_in from) (costs_in row) bytes 64 c.args.branches.now c.requires.branches c.extend.ensures.kept);
       tied = subst (λ z. Brought cheapest_with_count tied p z from (branches_of d) row) same (subst (λ bs. Brought cheapest_with_count tied p x from bs row) c.requires.branches c.extend.ensures.tied);
       two = subst (λ z. Brought two_cheapest two p z from (branches_of d) row) same (subst (λ bs. Brought two_cheapest two p x from bs row) c.requires.branches c.extend.ensures.two);

@@ -9,7 +9,7 @@ use Rattle.algebras.specs.TwoCosts.{two_cheapest}
 use Rattle.paths.specs.declared.branch.ListedBranch.{ListedBranch}
 use Rattle.paths.specs.Branches.{Within}
 use Rattle.survivors.specs.Survivors.{pick, offered_by, best_of}
-use Rattle.survivors.specs.Reaches.{reached_at, Kept}
+use Rattle.survivors.specs.Reaches.{reached_at, KeptNumbers}
 use Rattle.survivors.specs.Ranks.{tied, two, joined_rank, Sound, past, Sounds, costs_in, Brought}
 use Rattle.survivors.proofs.RankRowing.{kept_none, kept_same, best_more}
 use Rattle.survivors.proofs.Ranking.{sounds_more, sound_nowhere, brought_none, clear_costs, kept_rank, sounds_branch, tied_branch, two_branch}
@@ -87,7 +87,7 @@ loop-branch-preserved g c =
     let so_far : ℕ → Option (ℕ × ℕ) = λ k. pick (best_of p x (reached_at (costs_in from)) (take i bs) k) b.byte (offered_by p x (reached_at (costs_in from)) k b) in
     let kept = kept_rank p x from row bytes b h c.told-from long wide small c.requires.sounds sr (best_of p x (reached_at (costs_in from)) (take i bs)) c.loop-branch.invariant.0 in (
       kept_same 64 so_far (best_of p x (reached_at (costs_in from)) (take (i + 1) bs)) (costs_in row') bytes' (best_more p x (reached_at (costs_in from)) bs i none lt)
-          (subst (Kept 64 so_far (costs_in row')) byte (subst (λ z. Kept 64 so_far (costs_in z) (set bytes b.next (cond (ltb (u + p b.label x) v) b.byte (get_or bytes b.next 0)))) same kept)),
+          (subst (KeptNumbers 64 so_far (costs_in row')) byte (subst (λ z. KeptNumbers 64 so_far (costs_in z) (set bytes b.next (cond (ltb (u + p b.label x) v) b.byte (get_or bytes b.next 0)))) same kept)),
       subst (Brought cheapest_with_count tied p x from (take (i + 1) bs)) same (tied_branch p x from row bytes b h c.told-from long wide small c.requires.sounds sr bs i lt here c.loop-branch.invariant.1),
       subst (Brought two_cheapest two p x from (take (i + 1) bs)) same (two_branch p x from row bytes b h c.told-from long wide small c.requires.sounds sr bs i lt here c.loop-branch.invariant.2),
       λ m lo. subst (Sounds (m + most_cost)) same (sounds_branch p x from row bytes b h c.told-from long wide small c.requires.sounds sr m lo (c.loop-branch.invariant.3 m lo)),
@@ -104,8 +104,8 @@ returns g c =
     let all = take_all c.loop-branch.branch-index bs c.loop-branch-test.false in
     let same = to_z-of_z w16 c.args.sample c.ranges.sample in
     record {
-      kept = subst (λ z. Kept 64 (best_of p z (reached_at (costs_in from)) bs) (costs_in row) c.loop-branch.bytes) same
-          (subst (λ zs. Kept 64 (best_of p x (reached_at (costs_in from)) zs) (costs_in row) c.loop-branch.bytes) all c.loop-branch.invariant.0);
+      kept = subst (λ z. KeptNumbers 64 (best_of p z (reached_at (costs_in from)) bs) (costs_in row) c.loop-branch.bytes) same
+          (subst (λ zs. KeptNumbers 64 (best_of p x (reached_at (costs_in from)) zs) (costs_in row) c.loop-branch.bytes) all c.loop-branch.invariant.0);
       tied = subst (λ z. Brought cheapest_with_count tied p z from bs row) same (subst (λ zs. Brought cheapest_with_count tied p x from zs row) all c.loop-branch.invariant.1);
       two = subst (λ z. Brought two_cheapest two p z from bs row) same (subst (λ zs. Brought two_cheapest two p x from zs row) all c.loop-branch.invariant.2);
       sounds = c.loop-branch.invariant.3;

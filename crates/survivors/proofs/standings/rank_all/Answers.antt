@@ -10,7 +10,7 @@ use Rattle.paths.specs.Branches.{branches_of}
 use Rattle.paths.specs.Recursion.{after}
 use Rattle.survivors.specs.Survivors.{best}
 use Rattle.survivors.specs.Rows.{Tabled}
-use Rattle.survivors.specs.Reaches.{reached_at, Kept, Costed}
+use Rattle.survivors.specs.Reaches.{reached_at, KeptNumbers, CostedNumbers}
 use Rattle.survivors.specs.Ranks.{tied, two, past, costs_in, Brought}
 use Rattle.survivors.proofs.RankTabling.{zeros_part, costed_none, costed_more, tabled_more, rest_more}
 use Rattle.survivors.proofs.Ranking.{sounds_more, opening_reached}
@@ -42,14 +42,14 @@ loop-k-preserved g c =
     let bytes = c.advance_ranks.new.bytes in
     let fits : SFits w16 x = search rules in
     let same = to_z-of_z w16 x fits in
-    let kept : Kept 64 (best d p x (reached_at (costs_in row))) (costs_in next) bytes =
-    subst (λ z. Kept 64 (best d p z (reached_at (costs_in row))) (costs_in next) bytes) same c.advance_ranks.ensures.kept in
+    let kept : KeptNumbers 64 (best d p x (reached_at (costs_in row))) (costs_in next) bytes =
+    subst (λ z. KeptNumbers 64 (best d p z (reached_at (costs_in row))) (costs_in next) bytes) same c.advance_ranks.ensures.kept in
     let lt : k < length xs = omega arith in
     let a = c.place_of-from.result in
     let from : a ≡ k * 64 = omega (arith, c.place_of-from.ensures) in
     let room : a ≤ length c.loop-k.choices = omega arith in
     let wide : length bytes ≡ 64 = omega arith in
-    let old : Costed d p c.args.start (take k xs) (costs_in row) = (c.loop-k.invariant.0 c.args.start (costed_none d p c.args.start (costs_in first) (λ s l. opening_reached c.args.start first s c.open_ranks-row.ensures.len (omega (arith, lawful.few_states)) (c.open_ranks-row.ensures.ranks s (omega (arith, lawful.few_states)))))).0 in (
+    let old : CostedNumbers d p c.args.start (take k xs) (costs_in row) = (c.loop-k.invariant.0 c.args.start (costed_none d p c.args.start (costs_in first) (λ s l. opening_reached c.args.start first s c.open_ranks-row.ensures.len (omega (arith, lawful.few_states)) (c.open_ranks-row.ensures.ranks s (omega (arith, lawful.few_states)))))).0 in (
       λ start h.
           let r = c.loop-k.invariant.0 start h in (
             costed_more d lawful p start xs k lt (costs_in row) (costs_in next) bytes r.0 kept,
@@ -79,7 +79,7 @@ returns g c =
     let all = take_all c.loop-k.k xs (omega arith) in
     record {
       len = c.loop-k.invariant.5;
-      row = subst (λ ys. Costed d p c.args.start ys (costs_in row)) all r.0;
+      row = subst (λ ys. CostedNumbers d p c.args.start ys (costs_in row)) all r.0;
       tied = rank_sums cheapest_with_count cost_count_laws tied p d lawful c.args.start xs first row c.open_ranks-row.ensures.ranks (opening_tied c.args.start)
           (λ s l. c.loop-k.invariant.1 s l ∙ ap (λ ys. after d p cheapest_with_count (λ t. tied (get_or first t past)) ys s) all);
       two = rank_sums two_cheapest two_laws two p d lawful c.args.start xs first row c.open_ranks-row.ensures.ranks (opening_two c.args.start)

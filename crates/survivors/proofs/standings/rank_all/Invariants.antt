@@ -4,7 +4,7 @@ use Rattle.algebras.specs.CostCounts.{cheapest_with_count}
 use Rattle.algebras.specs.TwoCosts.{two_cheapest}
 use Rattle.paths.specs.Recursion.{after}
 use Rattle.survivors.specs.Rows.{Tabled}
-use Rattle.survivors.specs.Reaches.{Costed}
+use Rattle.survivors.specs.Reaches.{CostedNumbers}
 use Rattle.survivors.specs.Ranks.{tied, two, past, Sounds, costs_in}
 use Rattle.survivors.proofs.standings.rank_all.Given as goal
 
@@ -13,7 +13,7 @@ abbrev pub invariant-loop-k : goal.invariant-loop-k
 invariant-loop-k g l =
     let d = g.T.Trellis.meaning l.trellis in
     let p = g.M.Measure.costs l.measure in
-    ((start : Option ℕ) → Costed d p start [] (costs_in l.initial.row) → Costed d p start (take l.k l.samples) (costs_in l.row) × Tabled d p start l.samples l.k l.choices)
+    ((start : Option ℕ) → CostedNumbers d p start [] (costs_in l.initial.row) → CostedNumbers d p start (take l.k l.samples) (costs_in l.row) × Tabled d p start l.samples l.k l.choices)
     × ((s : ℕ) → s < d.states → tied (get_or l.row s past) ≡ after d p cheapest_with_count (λ t. tied (get_or l.initial.row t past)) (take l.k l.samples) s)
     × ((s : ℕ) → s < d.states → two (get_or l.row s past) ≡ after d p two_cheapest (λ t. two (get_or l.initial.row t past)) (take l.k l.samples) s)
     × Sounds (l.k * most_cost) l.row
