@@ -1,6 +1,6 @@
 // The numbers of a line.
 ghost use Rattle.std.specs.Prelude.{◌≡◌, ◌-◌, ◌^◌, ◌<◌, ◌≤◌, [], IfSome, if◌then◌else◌, Some, None};
-ghost use Rattle.lines.specs.Numbers.{is_digit, numeral as value_of_lem, number_in};
+ghost use Rattle.lines.specs.Numbers.{is_digit, numeral, number_in};
 
 // How a number is written: a generator in octal digits, any other in base ten with an optional minus.
 #[derive(Clone, Copy)]
@@ -22,7 +22,7 @@ fn digit_of(base: u32, byte: u8) -> Option<u32>
 // 1 to 6 digits of a base.
 fn numeral(base: u32, digits: &[u8]) -> Option<u32>
     requires { base ≤ 10 }
-    ensures value { result ≡ value_of_lem base digits.now }
+    ensures value { result ≡ numeral base digits.now }
     ensures small { IfSome result (λ n. n < 10 ^ 6) }
 {
     if digits.is_empty() || digits.len() > 6 {

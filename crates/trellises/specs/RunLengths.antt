@@ -1,4 +1,4 @@
--- The run_length limit: at least d and at most k zeros between two ones.
+-- The run-length limit: at least d and at most k zeros between two ones.
 use Rattle.std.specs.Prelude.{ℕ, zero, suc, ◌+◌, Bool, cond, ◌&&◌, ℤ, pos, Some, None, int_le, nat_le, nat_lt, unsigned_abs}
 use Rattle.model.specs.declared.refusal.Refusal.TheVariants.{RunLength as RunLengthRefused}
 use Rattle.model.specs.Refusals.{refusal_number}
@@ -29,6 +29,6 @@ run_length_check d k = checked (run_length_fits d k) (refusal_number RunLengthRe
 abbrev pub run_length_trellis : ℤ → ℤ → Diagram
 run_length_trellis d k = unless_refused (run_length_check d k) (run_length (unsigned_abs d) (unsigned_abs k))
 
--- what a run_length limit means
+-- what a run-length limit means
 abbrev pub run_length_meaning : RunLength → Diagram
 run_length_meaning t = or_bare (λ l. run_length l.least l.most) t.limits
