@@ -1,4 +1,4 @@
-// The forward pass: sums over all paths, in any algebra.
+// The forward pass over a list of the branches, two samples a turn: sums over all paths, in any algebra.
 ghost use Rattle.std.specs.Prelude.{◌≡◌, ◌+◌, ◌≤◌, [], ◌∷◌, length, take, drop, IfOk, Some, slice_index_or};
 ghost use Rattle.std.specs.Result.{result_ok};
 ghost use Rattle.model.specs.Refusals.{answer};

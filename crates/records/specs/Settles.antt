@@ -1,4 +1,5 @@
--- What settled work is, by the first of the cheapest paths as it is defined.
+-- What settled work is, by the first of the cheapest paths as it is defined. It says the same as Sound, which says it by paths, in facts that each
+-- hold in one way, as a ghost field has to; proofs/SettlesLemmas shows each from the other.
 use Rattle.std.specs.Prelude.{◌≡◌, ℕ, ◌+◌, ◌%◌, ◌^◌, ◌<◌, ◌≤◌, List, length, take, ℤ, Some, None, Option}
 use Rattle.std.specs.Option.{unwrap_or}
 use Rattle.std.proofs.Props.{props}

@@ -10,6 +10,7 @@ use model::trellis::Trellis;
 #[derive(Drop)]
 pub struct Settled<T: Trellis, M: Measure> {
     pub(crate) work: Work<T, M>,
+    // the bytes and the standing are those of its own trellis, measure, start, end and samples
     ghost settles: { Settles T.Trellis.meaning M.Measure.costs work } by { settles_prop T.Trellis.meaning M.Measure.costs work },
 }
 
