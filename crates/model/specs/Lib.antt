@@ -1,3 +1,4 @@
+pub mod Bare
 pub mod Ranges
 pub mod Refusals
 pub mod Trellises

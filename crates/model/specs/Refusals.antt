@@ -1,5 +1,5 @@
 -- The numbers of the refusals and of the layers in which a reader finds them.
-use Rattle.std.specs.Prelude.{ℕ, Ok, Err, Result}
+use Rattle.std.specs.Prelude.{ℕ, Ok, Err, Result, Some, Option, List, ◌++◌, decimal, codes}
 use Rattle.model.specs.declared.refusal.Refusal.{Refusal}
 use Rattle.model.specs.declared.refusal.Refusal.TheVariants.{TapsLetters, TapsCount, TapValue, ConstraintLength, GeneratorCount, GeneratorValue, InversionWord, RunLength, CascadeStates, BitsWidth, SamplesHeld, NotAState, RecordFull, RewindBeyond, NoPath, BufferShort, RowShort, LineForm, LineRepeated, LineSet, BlockCut, BlockKind, BlockOrder, PayloadLength, BytesAfterEnd, RecordingLarge}
 use Rattle.model.specs.declared.refusal.Fault.{Fault}
@@ -65,6 +65,14 @@ pub record Refused : Type 0 where
 
 abbrev pub refused : Fault → Refused
 refused f = record { number = refusal_number f.refusal; layer = layer_number f.layer; place = f.place }
+
+-- the fault that a layer finds for a reason at a place
+abbrev pub refused_at : Refusal → Layer → ℕ → Refused
+refused_at r l p = record { number = refusal_number r; layer = layer_number l; place = p }
+
+-- what a refusal prints
+abbrev pub printed_refusal : Refusal → Option (List ℕ)
+printed_refusal r = Some (codes "refused " ++ decimal (refusal_number r))
 
 -- what a reader answers, a fault by its numbers
 abbrev pub outcome : {T : Type 0} → Result T Fault → Result T Refused

@@ -1,36 +1,39 @@
 // Why a call is refused, and the number that stands for it.
 ghost use Rattle.std.specs.Prelude.{◌≡◌};
-ghost use Rattle.model.specs.Refusals.{refusal_number, layer_number};
+ghost use Rattle.model.specs.Refusals.{refusal_number, layer_number, refused_at, refused, printed_refusal};
 
-// The reasons, in the order of their numbers.
-#[derive(Clone, Copy, Debug)]
+use std::error::Error;
+use std::fmt;
+
+// The reasons, each with its number.
+#[derive(Clone, Copy, Debug, PartialEq, Eq)]
 pub enum Refusal {
-    TapsLetters,
-    TapsCount,
-    TapValue,
-    ConstraintLength,
-    GeneratorCount,
-    GeneratorValue,
-    InversionWord,
-    RunLength,
-    CascadeStates,
-    BitsWidth,
-    SamplesHeld,
-    NotAState,
-    RecordFull,
-    RewindBeyond,
-    NoPath,
-    BufferShort,
-    RowShort,
-    LineForm,
-    LineRepeated,
-    LineSet,
-    BlockCut,
-    BlockKind,
-    BlockOrder,
-    PayloadLength,
-    BytesAfterEnd,
-    RecordingLarge,
+    TapsLetters = 1,
+    TapsCount = 2,
+    TapValue = 3,
+    ConstraintLength = 4,
+    GeneratorCount = 5,
+    GeneratorValue = 6,
+    InversionWord = 7,
+    RunLength = 8,
+    CascadeStates = 10,
+    BitsWidth = 11,
+    SamplesHeld = 20,
+    NotAState = 21,
+    RecordFull = 22,
+    RewindBeyond = 23,
+    NoPath = 24,
+    BufferShort = 25,
+    RowShort = 26,
+    LineForm = 30,
+    LineRepeated = 31,
+    LineSet = 34,
+    BlockCut = 40,
+    BlockKind = 42,
+    BlockOrder = 43,
+    PayloadLength = 44,
+    BytesAfterEnd = 45,
+    RecordingLarge = 46,
 }
 
 impl Refusal {
@@ -38,44 +41,39 @@ impl Refusal {
     pub fn number(self) -> u8
         ensures { result ≡ refusal_number self }
     {
-        match self {
-            Refusal::TapsLetters => 1,
-            Refusal::TapsCount => 2,
-            Refusal::TapValue => 3,
-            Refusal::ConstraintLength => 4,
-            Refusal::GeneratorCount => 5,
-            Refusal::GeneratorValue => 6,
-            Refusal::InversionWord => 7,
-            Refusal::RunLength => 8,
-            Refusal::CascadeStates => 10,
-            Refusal::BitsWidth => 11,
-            Refusal::SamplesHeld => 20,
-            Refusal::NotAState => 21,
-            Refusal::RecordFull => 22,
-            Refusal::RewindBeyond => 23,
-            Refusal::NoPath => 24,
-            Refusal::BufferShort => 25,
-            Refusal::RowShort => 26,
-            Refusal::LineForm => 30,
-            Refusal::LineRepeated => 31,
-            Refusal::LineSet => 34,
-            Refusal::BlockCut => 40,
-            Refusal::BlockKind => 42,
-            Refusal::BlockOrder => 43,
-            Refusal::PayloadLength => 44,
-            Refusal::BytesAfterEnd => 45,
-            Refusal::RecordingLarge => 46,
+        self as u8
+    }
+
+    // The fault that a layer finds for this reason at a place.
+    pub fn at(self, layer: Layer, place: usize) -> Fault
+        ensures { refused result ≡ refused_at self layer place }
+    {
+        Fault {
+            refusal: self,
+            layer,
+            place,
         }
     }
 }
 
-// The part of a reading in which a fault was found.
-#[derive(Clone, Copy, Debug)]
+impl fmt::Display for Refusal {
+    ghost output = { λ r. printed_refusal r };
+
+    fn fmt<W: fmt::Write>(&self, f: &mut fmt::Formatter<W>) -> fmt::Result {
+        let number = self.number();
+        write!(f, "refused {number}")
+    }
+}
+
+impl Error for Refusal {}
+
+// The part of a reading in which a fault was found, each with its number.
+#[derive(Clone, Copy, Debug, PartialEq, Eq)]
 pub enum Layer {
-    Blocks,
-    Lines,
-    Makers,
-    Calls,
+    Blocks = 1,
+    Lines = 2,
+    Makers = 3,
+    Calls = 4,
 }
 
 impl Layer {
@@ -83,17 +81,12 @@ impl Layer {
     pub fn number(self) -> u8
         ensures { result ≡ layer_number self }
     {
-        match self {
-            Layer::Blocks => 1,
-            Layer::Lines => 2,
-            Layer::Makers => 3,
-            Layer::Calls => 4,
-        }
+        self as u8
     }
 }
 
 // What a reader found wrong: why, in which layer, and at which byte of what it read.
-#[derive(Clone, Copy, Debug)]
+#[derive(Clone, Copy, Debug, PartialEq, Eq)]
 pub struct Fault {
     pub refusal: Refusal,
     pub layer: Layer,

@@ -3,6 +3,7 @@ ghost use Rattle.std.specs.Prelude.{◌≡◌};
 ghost use Rattle.std.specs.Result.{result_ok};
 ghost use Rattle.model.specs.Refusals.{answer};
 ghost use Rattle.model.specs.Trellises.{Diagram, Lawful, state_of, state_check};
+ghost use Rattle.model.specs.Bare.{or_bare, or_bare_lawful};
 
 use crate::refusal::Refusal;
 
@@ -28,18 +29,38 @@ pub trait Trellis {
     ghost lawful: { (t : Self) → Lawful (meaning t) };
 }
 
+// A trellis that may be absent: one state, one letter and no branch where it is.
+impl<T: Trellis> Trellis for Option<T> {
+    ghost meaning = { or_bare T.Trellis.meaning };
+
+    ghost lawful = { λ t. or_bare_lawful T.Trellis.meaning T.Trellis.lawful t };
+
+    fn states(&self) -> usize {
+        match self {
+            Some(trellis) => trellis.states(),
+            None => 1,
+        }
+    }
+
+    fn letters(&self) -> usize {
+        match self {
+            Some(trellis) => trellis.letters(),
+            None => 1,
+        }
+    }
+
+    fn branch(&self, state: usize, letter: usize) -> Option<(usize, i16)> {
+        self.as_ref()?.branch(state, letter)
+    }
+}
+
 // The state that a number names, or the refusal where it names none.
 pub fn state_named<T: Trellis>(trellis: &T, number: i32) -> Result<usize, Refusal>
     ensures value { result_ok result ≡ state_of (T.Trellis.meaning trellis.now) number }
     ensures checked { answer result ≡ state_check (T.Trellis.meaning trellis.now) number }
 {
-    if number < 0 {
-        return Err(Refusal::NotAState);
-    }
-    let state = number as usize;
-    if state < trellis.states() {
-        Ok(state)
-    } else {
-        Err(Refusal::NotAState)
+    match usize::try_from(number) {
+        Ok(state) if state < trellis.states() => Ok(state),
+        _ => Err(Refusal::NotAState),
     }
 }
