@@ -1,16 +1,8 @@
--- The trellis that refused parameters make.
-use Rattle.std.specs.Prelude.{ℕ, cond, Some, None, Option, ◌==◌}
+-- What a making makes of checked parameters.
+use Rattle.std.specs.Prelude.{ℕ, cond, ◌==◌}
 use Rattle.model.specs.Trellises.{Diagram}
+use Rattle.model.specs.Bare.{bare}
 
--- one state, one letter, no branch
-abbrev pub bare : Diagram
-bare = record { states = 1; letters = 1; branch = λ s a. None }
-
--- what a making makes: the diagram where the check answers 0, else the bare one
+-- the diagram where the check answers 0, else the bare one
 abbrev pub unless_refused : ℕ → Diagram → Diagram
 unless_refused check d = cond (check == 0) d bare
-
--- what a trellis means that holds accepted parameters, or none
-abbrev pub or_bare : {P : Type 0} → (P → Diagram) → Option P → Diagram
-or_bare f None = bare
-or_bare f (Some p) = f p

@@ -5,20 +5,10 @@ use Rattle.std.proofs.Math.Arith.{digits_lt}
 use Rattle.model.specs.declared.refusal.Refusal.TheVariants.{CascadeStates}
 use Rattle.model.specs.Refusals.{refusal_number}
 use Rattle.model.specs.Trellises.{Branch, Diagram, StaysIn, Lawful, most_states}
-use Rattle.trellises.specs.Bare.{bare, unless_refused}
+use Rattle.model.specs.Bare.{bare_lawful}
+use Rattle.trellises.specs.Bare.{unless_refused}
 use Rattle.trellises.specs.Checks.{checked}
 use Rattle.trellises.specs.Cascades.{on_label, beside, then_inner, cascade, cascade_trellis}
-
-pub bare_lawful : Lawful bare
-bare_lawful = record {
-  some_state = omega arith;
-  few_states = omega arith;
-  some_letter = omega arith;
-  few_letters = omega arith;
-  no_state = λ s a h. refl;
-  no_letter = λ s a h. refl;
-  stays = λ s a. tt;
-}
 
 module _ (m n : ℕ) where
   stays_beside : (o : ℕ) (b : Branch) → o < m → StaysIn n b → StaysIn (m * n) (beside n o b)

@@ -1,5 +1,6 @@
 -- What checks are made of.
-use Rattle.std.specs.Prelude.{ℕ, ◌-◌, ◌^◌, Bool, true, cond, ◌&&◌, List, [], ◌∷◌, ℤ, pos, negsuc, int_le}
+use Rattle.std.specs.Prelude.{ℕ, ◌-◌, ◌^◌, Bool, cond, ◌&&◌, List, ℤ, pos, negsuc, int_le}
+use Rattle.std.specs.List.{list_all}
 
 -- one check in a row of them: the refusal's number where it fails, else what the rest answers
 abbrev pub checked : Bool → ℕ → ℕ → ℕ
@@ -11,8 +12,7 @@ between low high z = int_le low z && int_le z high
 
 -- and so for each of a list
 abbrev pub all_between : ℤ → ℤ → List ℤ → Bool
-all_between low high [] = true
-all_between low high (z ∷ zs) = between low high z && all_between low high zs
+all_between low high zs = list_all (between low high) zs
 
 -- a tap is from −127 to 127
 abbrev pub tap_fits : ℤ → Bool

@@ -1,13 +1,15 @@
 -- The convolutional code of rate 1/n, by its constraint length k, inversion word v and n generators gs.
-use Rattle.std.specs.Prelude.{ℕ, ◌+◌, ◌-◌, ◌*◌, ◌/◌, ◌%◌, ◌^◌, ◌&&◌, List, map, length, take, ℤ, pos, bit_and, bit_xor, count_ones, nat_le, unsigned_abs}
+use Rattle.std.specs.Prelude.{ℕ, ◌+◌, ◌-◌, ◌*◌, ◌/◌, ◌%◌, ◌^◌, ◌&&◌, List, map, length, ℤ, pos, bit_and, bit_xor, count_ones, nat_le, unsigned_abs}
 use Rattle.model.specs.declared.refusal.Refusal.TheVariants.{ConstraintLength, GeneratorCount, GeneratorValue, InversionWord}
 use Rattle.model.specs.Refusals.{refusal_number}
 use Rattle.model.specs.Trellises.{Diagram}
-use Rattle.trellises.specs.Bare.{unless_refused, or_bare}
+use Rattle.model.specs.Bare.{or_bare}
+use Rattle.arrays.specs.Lists.{list_items}
+use Rattle.trellises.specs.Bare.{unless_refused}
 use Rattle.trellises.specs.Checks.{checked, between, all_between, largest}
 use Rattle.trellises.specs.Digits.{written}
 use Rattle.trellises.specs.Full.{full}
-use Rattle.trellises.specs.declared.code.Code.{Code}
+use Rattle.trellises.specs.declared.or_bare.OrBare.{OrBare}
 use Rattle.trellises.specs.declared.code.encoder.Encoder.{Encoder}
 
 -- the state below the new letter
@@ -44,8 +46,12 @@ code_trellis k v gs = unless_refused (code_check k v gs) (code (unsigned_abs k) 
 
 -- the generators that an encoder holds
 abbrev pub generators_of : Encoder → List ℕ
-generators_of e = take e.count e.generators
+generators_of e = map unsigned_abs (list_items e.generators)
+
+-- what an encoder means
+abbrev pub encoder_meaning : Encoder → Diagram
+encoder_meaning e = code e.constraint e.inversion (generators_of e)
 
 -- what a code means
-abbrev pub code_meaning : Code → Diagram
-code_meaning t = or_bare (λ e. code e.constraint e.inversion (generators_of e)) t.encoder
+abbrev pub code_meaning : OrBare Encoder → Diagram
+code_meaning t = or_bare encoder_meaning t.accepted

@@ -1,7 +1,7 @@
 -- Worked examples of the definitions.
 use Rattle.std.specs.Prelude.{◌≡◌, ℕ, [], ◌∷◌, ℤ, pos, negsuc, Some, None}
 use Rattle.model.specs.Trellises.{Diagram}
-use Rattle.trellises.specs.Bare.{bare}
+use Rattle.model.specs.Bare.{bare}
 use Rattle.trellises.specs.Cascades.{cascade_check, cascade_trellis}
 use Rattle.trellises.specs.Codes.{code_check, code_trellis}
 use Rattle.trellises.specs.RunLengths.{run_length_check, run_length_trellis}

@@ -3,6 +3,7 @@ pub mod Cascades
 pub mod Checks
 pub mod Codes
 pub mod Digits
+pub mod Encoders
 pub mod Examples
 pub mod Full
 pub mod RunLengths

@@ -3,9 +3,11 @@ use Rattle.std.specs.Prelude.{ℕ, zero, suc, ◌+◌, Bool, cond, ◌&&◌, ℤ
 use Rattle.model.specs.declared.refusal.Refusal.TheVariants.{RunLength as RunLengthRefused}
 use Rattle.model.specs.Refusals.{refusal_number}
 use Rattle.model.specs.Trellises.{Branch, Diagram}
-use Rattle.trellises.specs.Bare.{unless_refused, or_bare}
+use Rattle.model.specs.Bare.{or_bare}
+use Rattle.trellises.specs.Bare.{unless_refused}
 use Rattle.trellises.specs.Checks.{checked}
-use Rattle.trellises.specs.declared.run_length.RunLength.{RunLength}
+use Rattle.trellises.specs.declared.or_bare.OrBare.{OrBare}
+use Rattle.trellises.specs.declared.run_length.limits.Limits.{Limits}
 
 -- the state counts the zeros since the last one: a zero leads one higher, up to k; a one leads to 0, from d on
 abbrev pub run_length_branch : ℕ → ℕ → ℕ → ℕ → Branch
@@ -29,6 +31,10 @@ run_length_check d k = checked (run_length_fits d k) (refusal_number RunLengthRe
 abbrev pub run_length_trellis : ℤ → ℤ → Diagram
 run_length_trellis d k = unless_refused (run_length_check d k) (run_length (unsigned_abs d) (unsigned_abs k))
 
+-- what two limits mean
+abbrev pub limits_meaning : Limits → Diagram
+limits_meaning l = run_length l.least l.most
+
 -- what a run-length limit means
-abbrev pub run_length_meaning : RunLength → Diagram
-run_length_meaning t = or_bare (λ l. run_length l.least l.most) t.limits
+abbrev pub run_length_meaning : OrBare Limits → Diagram
+run_length_meaning t = or_bare limits_meaning t.accepted

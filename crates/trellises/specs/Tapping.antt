@@ -6,7 +6,7 @@ use Rattle.std.proofs.Math.Arith.{digits_lt}
 use Rattle.std.specs.List.{AllByRecursion}
 use Rattle.std.proofs.lemmas.Nat.{div_below}
 use Rattle.std.proofs.lemmas.List.{drop_more}
-use Rattle.std.proofs.lemmas.Int.{ints}
+use Rattle.std.proofs.lemmas.Int.{ints, unsigned_abs-mul}
 use Rattle.std.proofs.lemmas.Bool.{and_parts, or_cases, leb-true, eqb-true}
 use Rattle.model.specs.Ranges.{InRange}
 use Rattle.model.specs.Trellises.{Lawful, most_states}
@@ -18,17 +18,6 @@ use Rattle.trellises.specs.Taps.{level, tapped, memory, last_letters, next_state
 use Rattle.trellises.specs.Filling.{full_lawful}
 use Rattle.trellises.specs.Writing.{written_digits, digits_below, take_digits, digits_above}
 
-nat_abs_neg : (n : ℕ) → unsigned_abs (neg_ℤ (pos n)) ≡ n
-nat_abs_neg zero = refl
-nat_abs_neg (suc n) = refl
-
--- the size of a product
-nat_abs_mul : (x y : ℤ) → unsigned_abs (x *ℤ y) ≡ unsigned_abs x * unsigned_abs y
-nat_abs_mul (pos a) (pos b) = refl
-nat_abs_mul (pos a) (negsuc b) = nat_abs_neg (a * suc b)
-nat_abs_mul (negsuc a) (pos b) = nat_abs_neg (suc a * b)
-nat_abs_mul (negsuc a) (negsuc b) = refl
-
 level_size : (letters a : ℕ) → a < letters → letters ≤ 4 → unsigned_abs (level letters a) ≤ 3
 level_size letters a h few = omega (arith, ints)
 
@@ -37,7 +26,7 @@ tap_size h e = grind (arith, ints)
 
 -- what one tap adds
 pub term_size : (letters a : ℕ) (h : ℤ) → a < letters → letters ≤ 4 → tap_fits h ≡ true → unsigned_abs (h *ℤ level letters a) ≤ 381
-term_size letters a h below few e = rw nat_abs_mul (mul-le-mul (tap_size h e) (level_size letters a below few))
+term_size letters a h below few e = rw unsigned_abs-mul (mul-le-mul (tap_size h e) (level_size letters a below few))
 
 pub between_at : (low high : ℤ) (zs : List ℤ) (i : ℕ) → i < length zs → all_between low high zs ≡ true → between low high (slice_index_or zs i (pos 0)) ≡ true
 between_at low high [] i h e = absurd (omega arith)
@@ -54,22 +43,25 @@ tapped_size letters (h ∷ hs) (a ∷ ls) few e below =
     let later = tapped_size letters hs ls few p.1 below.1 in
     omega (arith, ints)
 
--- one turn: the newest letter of a register that is below its place
-module _ (letters : ℕ) (hs : List ℤ) (i place rest : ℕ) (two : 2 ≤ letters) (within : i < length hs) (placed : place ≡ letters ^ length (drop i hs)) (below : rest < place) where
-  raised : place ≡ letters ^ length (drop (i + 1) hs) * letters
-  raised = placed ∙ rw (drop_more hs i (pos 0) within) (pow-suc letters (length (drop (i + 1) hs)))
+-- one turn: the newest letter of a register that is below its place, and what is left of both
+pub record Turn (letters : ℕ) (hs : List ℤ) (i place rest : ℕ) : Type 0 where
+  pub some : 0 < place / letters
+  pub place_left : place / letters ≡ letters ^ length (drop (i + 1) hs)
+  pub letter : rest / (place / letters) < letters
+  pub adds : tapped letters (drop i hs) (digits_of letters (length (drop i hs)) rest) ≡ (slice_index_or hs i (pos 0) *ℤ level letters (rest / (place / letters))) +ℤ tapped letters (drop (i + 1) hs) (digits_of letters (length (drop (i + 1) hs)) (rest % (place / letters)))
 
-  pub place_after : place / letters ≡ letters ^ length (drop (i + 1) hs)
-  place_after = rw raised (mul-div_cancel (letters ^ length (drop (i + 1) hs)) (omega arith))
-
-  pub place_some : 0 < place / letters
-  place_some = rw place_after (one-le-pow (length (drop (i + 1) hs)) letters (omega arith))
-
-  pub letter_below : rest / (place / letters) < letters
-  letter_below = div_below rest (place / letters) letters place_some (rw place_after (omega (arith, raised)))
-
-  pub tapped_turn : tapped letters (drop i hs) (digits_of letters (length (drop i hs)) rest) ≡ (slice_index_or hs i (pos 0) *ℤ level letters (rest / (place / letters))) +ℤ tapped letters (drop (i + 1) hs) (digits_of letters (length (drop (i + 1) hs)) (rest % (place / letters)))
-  tapped_turn = rw (place_after, drop_more hs i (pos 0) within)
+pub turn : (letters : ℕ) (hs : List ℤ) (i place rest : ℕ) → 2 ≤ letters → i < length hs → place ≡ letters ^ length (drop i hs) → rest < place → Turn letters hs i place rest
+turn letters hs i place rest two within placed below =
+    let left = drop (i + 1) hs in
+    let raised : place ≡ letters ^ length left * letters = placed ∙ rw (drop_more hs i (pos 0) within) (pow-suc letters (length left)) in
+    let after : place / letters ≡ letters ^ length left = rw raised (mul-div_cancel (letters ^ length left) (omega arith)) in
+    let some : 0 < place / letters = rw after (one-le-pow (length left) letters (omega arith)) in
+    record {
+      some = some;
+      place_left = after;
+      letter = div_below rest (place / letters) letters some (rw after (omega (arith, raised)));
+      adds = rw (after, drop_more hs i (pos 0) within);
+    }
 
 -- a state below a new letter, and the digits of the two together
 module _ (letters : ℕ) (hs : List ℤ) (s a : ℕ) (tap : 1 ≤ length hs) (state : s < letters ^ memory hs) (letter : a < letters) where

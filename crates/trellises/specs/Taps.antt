@@ -3,11 +3,13 @@ use Rattle.std.specs.Prelude.{◌≡◌, ℕ, ◌-◌, ◌*◌, ◌^◌, ◌<◌
 use Rattle.model.specs.declared.refusal.Refusal.TheVariants.{TapsLetters, TapsCount, TapValue}
 use Rattle.model.specs.Refusals.{refusal_number}
 use Rattle.model.specs.Trellises.{Diagram}
-use Rattle.trellises.specs.Bare.{unless_refused, or_bare}
+use Rattle.model.specs.Bare.{or_bare}
+use Rattle.arrays.specs.Lists.{list_items}
+use Rattle.trellises.specs.Bare.{unless_refused}
 use Rattle.trellises.specs.Checks.{checked, taps_fit}
 use Rattle.trellises.specs.Digits.{written, digits_of}
 use Rattle.trellises.specs.Full.{full}
-use Rattle.trellises.specs.declared.taps.Taps.{Taps}
+use Rattle.trellises.specs.declared.or_bare.OrBare.{OrBare}
 use Rattle.trellises.specs.declared.taps.channel.Channel.{Channel}
 
 -- the level that a letter stands for
@@ -62,11 +64,15 @@ taps_trellis letters hs = unless_refused (taps_check letters hs) (taps (unsigned
 
 -- the taps that a channel holds
 abbrev pub taps_of : Channel → List ℤ
-taps_of c = take c.count c.taps
+taps_of c = list_items c.taps
 
 -- what a channel means
-abbrev pub taps_meaning : Taps → Diagram
-taps_meaning t = or_bare (λ c. taps c.letters (taps_of c)) t.channel
+abbrev pub channel_meaning : Channel → Diagram
+channel_meaning c = taps c.letters (taps_of c)
+
+-- and what it means where it may have been refused
+abbrev pub taps_meaning : OrBare Channel → Diagram
+taps_meaning t = or_bare channel_meaning t.accepted
 
 -- a next state holds the new letter and then what the state held, without the oldest
 abbrev pub TapsByLetters : Type 0

@@ -5,7 +5,7 @@ ghost use Rattle.trellises.specs.Cascades.{cascade_fits, cascade_check, cascade_
 ghost use Rattle.trellises.specs.Laws.{cascade_lawful};
 
 use model::refusal::Refusal;
-use model::trellis::Trellis;
+use model::trellis::{MOST_STATES, Trellis};
 
 // The inner trellis takes the outer's labels for its letters; with too many states the cascade is bare.
 #[derive(Drop)]
@@ -19,7 +19,7 @@ impl<O: Trellis, I: Trellis> Cascade<O, I> {
     pub fn check(outer: &O, inner: &I) -> Result<(), Refusal>
         ensures { answer result ≡ cascade_check (O.Trellis.meaning outer.now) (I.Trellis.meaning inner.now) }
     {
-        if outer.states() * inner.states() <= 64 {
+        if outer.states() * inner.states() <= MOST_STATES {
             Ok(())
         } else {
             Err(Refusal::CascadeStates)
@@ -64,10 +64,8 @@ impl<O: Trellis, I: Trellis> Trellis for Cascade<O, I> {
         }
         let inner_states = self.inner.states();
         let (outer, label) = self.outer.branch(state / inner_states, letter)?;
-        if label < 0 {
-            return None;
-        }
-        let (inner, shown) = self.inner.branch(state % inner_states, label as usize)?;
+        let inner_letter = usize::try_from(label).ok()?;
+        let (inner, shown) = self.inner.branch(state % inner_states, inner_letter)?;
         Some((outer * inner_states + inner, shown))
     }
 }

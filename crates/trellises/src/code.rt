@@ -1,10 +1,14 @@
 // The convolutional code of rate 1/n.
-ghost use Rattle.std.specs.Prelude.{◌≡◌, ◌-◌, ◌^◌, ◌<◌, ◌≤◌, map, length, take, unsigned_abs};
+ghost use Rattle.std.specs.Prelude.{◌≡◌, ◌^◌, ◌<◌, ◌≤◌, length, map, unsigned_abs};
+ghost use Rattle.std.specs.Result.{result_ok};
+ghost use Rattle.model.specs.Bare.{or_bare};
 ghost use Rattle.model.specs.Refusals.{answer};
-ghost use Rattle.trellises.specs.Codes.{code_bit, code_word, generators_of, code_label, code_check, code_trellis, code_meaning};
-ghost use Rattle.trellises.specs.Laws.{code_lawful};
+ghost use Rattle.trellises.specs.Codes.{code_bit, code_word, generators_of, code_label, code_check, code_trellis, encoder_meaning, code_meaning};
+ghost use Rattle.trellises.specs.Encoders.{encoder_lawful};
 
+use crate::or_bare::OrBare;
 use crate::ranges::{all_between, is_between, largest_of};
+use arrays::list::FixedList;
 use model::refusal::Refusal;
 use model::trellis::Trellis;
 
@@ -12,11 +16,11 @@ mod encoder;
 
 use encoder::Encoder;
 
+// A code takes bits.
+const LETTERS: usize = 2;
+
 // The state holds the last letters, the newest highest; without an encoder the trellis is bare.
-#[derive(Clone, Copy)]
-pub struct Code {
-    encoder: Option<Encoder>,
-}
+pub type Code = OrBare<Encoder>;
 
 impl Code {
     // Whether the parameters are in range.
@@ -26,7 +30,7 @@ impl Code {
         if !is_between(1, 7, constraint) {
             return Err(Refusal::ConstraintLength);
         }
-        if generators.is_empty() || 4 < generators.len() {
+        if !(1..=4).contains(&generators.len()) {
             return Err(Refusal::GeneratorCount);
         }
         if !all_between(1, largest_of(constraint as usize), generators) {
@@ -42,16 +46,9 @@ impl Code {
     pub fn new(constraint: i32, inversion: i32, generators: &[i32]) -> Self
         ensures { code_meaning result ≡ code_trellis constraint inversion generators.now }
     {
-        let encoder = match Self::check(constraint, inversion, generators) {
-            Ok(()) => Some(Encoder {
-                constraint: constraint as usize,
-                inversion: inversion as u32,
-                generators: held(generators),
-                count: generators.len(),
-            }),
-            Err(_) => None,
-        };
-        Code { encoder }
+        OrBare {
+            accepted: Encoder::new(constraint, inversion, generators).ok(),
+        }
     }
 }
 
@@ -63,70 +60,55 @@ fn bit(register: u32, generator: u32) -> u32
 }
 
 // The bits of the generators on a register, the first one's highest.
-fn word(generators: &[u32], register: u32) -> u32
+fn word(generators: &[i32], register: u32) -> u32
     requires { length generators.now ≤ 4 }
-    ensures { result ≡ code_word generators.now register }
+    ensures { result ≡ code_word (map unsigned_abs generators.now) register }
 {
-    let mut word = 0;
-    for generator in generators {
-        word = 2 * word + bit(register, *generator);
-    }
-    word
+    generators.iter().fold(0, |word, generator| {
+        word << 1 | bit(register, generator.unsigned_abs())
+    })
 }
 
 impl Encoder {
-    // A state holds one letter less than the register.
-    fn states(&self) -> usize
-        ensures { result ≡ 2 ^ (self.now.constraint - 1) }
+    // The encoder of parameters in range, else why they are refused.
+    fn new(constraint: i32, inversion: i32, generators: &[i32]) -> Result<Self, Refusal>
+        ensures { or_bare encoder_meaning (result_ok result) ≡ code_trellis constraint inversion generators.now }
     {
-        1 << (self.constraint - 1)
+        Code::check(constraint, inversion, generators)?;
+        Ok(Encoder {
+            constraint: constraint as usize,
+            inversion: inversion as u32,
+            generators: FixedList::from_slice(0, generators),
+        })
     }
 
     // The label of a register: its bits, each flipped where the inversion word has a one.
     fn label(&self, register: u32) -> i16
         ensures { result ≡ code_label self.now.inversion (generators_of self.now) register }
     {
-        (word(&self.generators[0..self.count], register) ^ self.inversion) as i16
+        (word(self.generators.as_slice(), register) ^ self.inversion) as i16
     }
 }
 
-// The generators, from the first place of an array on.
-fn held(generators: &[i32]) -> [u32; 4]
-    requires { length generators.now ≤ 4 }
-    ensures { take (length generators.now) result ≡ map unsigned_abs generators.now }
-{
-    let mut held = [0; 4];
-    for (i, generator) in generators.iter().enumerate() {
-        held[i] = generator.unsigned_abs();
-    }
-    held
-}
+impl Trellis for Encoder {
+    ghost meaning = { encoder_meaning };
 
-impl Trellis for Code {
-    ghost meaning = { code_meaning };
+    ghost lawful = { λ e. encoder_lawful e };
 
-    ghost lawful = { λ t. code_lawful t };
-
+    // A state holds one letter less than the register.
     fn states(&self) -> usize {
-        match self.encoder {
-            Some(encoder) => encoder.states(),
-            None => 1,
-        }
+        1 << (self.constraint - 1)
     }
 
     fn letters(&self) -> usize {
-        match self.encoder {
-            Some(_) => 2,
-            None => 1,
-        }
+        LETTERS
     }
 
     fn branch(&self, state: usize, letter: usize) -> Option<(usize, i16)> {
-        let encoder = self.encoder?;
-        let states = encoder.states();
-        if state < states && letter < 2 {
+        let states = self.states();
+        if state < states && letter < LETTERS {
             let register = letter * states + state;
-            Some((register / 2, encoder.label(register as u32)))
+            Some((register / 2, self.label(register as u32)))
         } else {
             None
         }

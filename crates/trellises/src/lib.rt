@@ -4,6 +4,7 @@
 pub mod cascade;
 pub mod code;
 pub mod examples;
+pub mod or_bare;
 mod ranges;
 pub mod run_length;
 pub mod taps;

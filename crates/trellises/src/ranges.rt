@@ -6,19 +6,14 @@ ghost use Rattle.trellises.specs.Checks.{between, all_between, largest};
 pub(crate) fn is_between(low: i32, high: i32, value: i32) -> bool
     ensures { result ≡ between low high value }
 {
-    low <= value && value <= high
+    (low..=high).contains(&value)
 }
 
 // Whether each value is between low and high.
 pub(crate) fn all_between(low: i32, high: i32, values: &[i32]) -> bool
     ensures { result ≡ all_between low high values.now }
 {
-    for value in values {
-        if !is_between(low, high, *value) {
-            return false;
-        }
-    }
-    true
+    values.iter().all(|value| is_between(low, high, *value))
 }
 
 // The largest number of so many binary digits.

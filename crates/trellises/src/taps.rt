@@ -1,13 +1,16 @@
 // The channel with taps.
-ghost use Rattle.std.specs.Prelude.{◌≡◌, ◌-◌, ◌^◌, ◌<◌, ◌≤◌, true, length, take, ◌*ℤ◌, unsigned_abs};
+ghost use Rattle.std.specs.Prelude.{◌≡◌, ◌*◌, ◌^◌, ◌<◌, ◌≤◌, true, length, ◌*ℤ◌, unsigned_abs};
+ghost use Rattle.std.specs.Result.{result_ok};
+ghost use Rattle.model.specs.Bare.{or_bare};
 ghost use Rattle.model.specs.Refusals.{answer};
-ghost use Rattle.model.specs.Trellises.{most_states};
-ghost use Rattle.trellises.specs.Checks.{tap_fits, taps_fit};
+ghost use Rattle.trellises.specs.Checks.{tap_fits};
 ghost use Rattle.trellises.specs.Digits.{digits_of};
-ghost use Rattle.trellises.specs.Taps.{level, tapped, taps_of, next_state, taps_label, taps_check, taps_trellis, taps_meaning, TapsByLetters};
-ghost use Rattle.trellises.specs.Laws.{taps_lawful};
+ghost use Rattle.trellises.specs.Taps.{level, tapped, taps_of, next_state, taps_label, taps_check, taps_trellis, channel_meaning, taps_meaning, TapsByLetters};
+ghost use Rattle.trellises.specs.Channels.{channel_lawful};
 
+use crate::or_bare::OrBare;
 use crate::ranges::all_between;
+use arrays::list::FixedList;
 use model::refusal::Refusal;
 use model::trellis::Trellis;
 
@@ -16,10 +19,7 @@ mod channel;
 use channel::Channel;
 
 // The state holds the last letters, the newest highest; without a channel the trellis is bare.
-#[derive(Clone, Copy)]
-pub struct Taps {
-    channel: Option<Channel>,
-}
+pub type Taps = OrBare<Channel>;
 
 impl Taps {
     // Whether the parameters are in range.
@@ -31,7 +31,7 @@ impl Taps {
             4 => 4,
             _ => return Err(Refusal::TapsLetters),
         };
-        if taps.is_empty() || most < taps.len() {
+        if !(1..=most).contains(&taps.len()) {
             return Err(Refusal::TapsCount);
         }
         if !all_between(-127, 127, taps) {
@@ -44,74 +44,58 @@ impl Taps {
     pub fn new(letters: i32, taps: &[i32]) -> Self
         ensures { taps_meaning result ≡ taps_trellis letters taps.now }
     {
-        let channel = match Self::check(letters, taps) {
-            Ok(()) => Some(Channel::new(letters as usize, taps)),
-            Err(_) => None,
-        };
-        Taps { channel }
+        OrBare {
+            accepted: Channel::new(letters, taps).ok(),
+        }
     }
-}
-
-// The level that a letter stands for.
-fn level_of(letters: usize, letter: usize) -> i32
-    requires few { letters ≤ 4 }
-    requires below { letter < letters }
-    ensures { result ≡ level letters letter }
-{
-    2 * letter as i32 - (letters as i32 - 1)
-}
-
-// What one tap adds to the label: at most 127 times 3 in size.
-fn term(tap: i32, letters: usize, letter: usize) -> i32
-    requires small { tap_fits tap ≡ true }
-    requires few { letters ≤ 4 }
-    requires below { letter < letters }
-    ensures value { result ≡ tap *ℤ level letters letter }
-    ensures bound { unsigned_abs result ≤ 381 }
-{
-    tap * level_of(letters, letter)
-}
-
-// The sum of the taps times the levels of a register's letters, the newest first; `top` is the place above them.
-fn tap_sum(taps: &[i32], letters: usize, top: usize, register: usize) -> i16
-    requires two { 2 ≤ letters }
-    requires four { letters ≤ 4 }
-    requires few { length taps.now ≤ 7 }
-    requires small { taps_fit taps.now ≡ true }
-    requires above { top ≡ letters ^ length taps.now }
-    requires below { register < top }
-    ensures { result ≡ tapped letters taps.now (digits_of letters (length taps.now) register) }
-{
-    let mut sum = 0;
-    let mut place = top;
-    let mut rest = register;
-    for tap in taps {
-        place /= letters;
-        sum += term(*tap, letters, rest / place);
-        rest %= place;
-    }
-    sum as i16
 }
 
 impl Channel {
-    // The channel of parameters that the check accepts.
-    fn new(letters: usize, taps: &[i32]) -> Self
-        requires two { 2 ≤ letters }
-        requires four { letters ≤ 4 }
-        requires some { 1 ≤ length taps.now }
-        requires within { length taps.now ≤ 7 }
-        requires small { taps_fit taps.now ≡ true }
-        requires few { letters ^ (length taps.now - 1) ≤ most_states }
-        ensures letters { result.letters ≡ letters }
-        ensures taps { taps_of result ≡ taps.now }
+    // The channel of parameters in range, else why they are refused.
+    fn new(letters: i32, taps: &[i32]) -> Result<Self, Refusal>
+        ensures { or_bare channel_meaning (result_ok result) ≡ taps_trellis letters taps.now }
     {
-        let count = taps.len();
-        Channel {
+        Taps::check(letters, taps)?;
+        let letters = letters as usize;
+        Ok(Channel {
             letters,
-            taps: held(taps),
-            count,
-            states: letters.pow((count - 1) as u32),
+            taps: FixedList::from_slice(0, taps),
+            states: letters.pow((taps.len() - 1) as u32),
+        })
+    }
+
+    // The level that a letter stands for.
+    fn level_of(&self, letter: usize) -> i32
+        requires { letter < self.now.letters }
+        ensures { result ≡ level self.now.letters letter }
+    {
+        2 * letter as i32 - (self.letters as i32 - 1)
+    }
+
+    // What one tap adds to the label: at most 127 times 3 in size.
+    fn term(&self, tap: i32, letter: usize) -> i32
+        requires small { tap_fits tap ≡ true }
+        requires below { letter < self.now.letters }
+        ensures value { result ≡ tap *ℤ level self.now.letters letter }
+        ensures bound { unsigned_abs result ≤ 381 }
+    {
+        tap * self.level_of(letter)
+    }
+
+    // The sum of the taps times the levels of a register's letters, the newest first.
+    fn label(&self, register: usize) -> i16
+        requires { register < self.now.letters * self.now.states }
+        ensures { result ≡ tapped self.now.letters (taps_of self.now) (digits_of self.now.letters (length (taps_of self.now)) register) }
+    {
+        let mut sum = 0;
+        let mut place = self.letters * self.states;
+        let mut rest = register;
+        for tap in self.taps.as_slice() {
+            place /= self.letters;
+            sum += self.term(*tap, rest / place);
+            rest %= place;
         }
+        sum as i16
     }
 
     // The next state and the label.
@@ -121,49 +105,26 @@ impl Channel {
         ensures next { result.0 ≡ next_state self.now.letters (taps_of self.now) state letter }
         ensures label { result.1 ≡ taps_label self.now.letters (taps_of self.now) state letter }
     {
-        let top = self.letters * self.states;
         let register = letter * self.states + state;
-        let label = tap_sum(&self.taps[0..self.count], self.letters, top, register);
-        (register / self.letters, label)
+        (register / self.letters, self.label(register))
     }
 }
 
-// The taps, from the first place of an array on.
-fn held(taps: &[i32]) -> [i32; 7]
-    requires { length taps.now ≤ 7 }
-    ensures { take (length taps.now) result ≡ taps.now }
-{
-    let mut held = [0; 7];
-    held[0..taps.len()].copy_from_slice(taps);
-    held
-}
+impl Trellis for Channel {
+    ghost meaning = { channel_meaning };
 
-impl Trellis for Taps {
-    ghost meaning = { taps_meaning };
-
-    ghost lawful = { λ t. taps_lawful t };
+    ghost lawful = { λ c. channel_lawful c };
 
     fn states(&self) -> usize {
-        match self.channel {
-            Some(channel) => channel.states,
-            None => 1,
-        }
+        self.states
     }
 
     fn letters(&self) -> usize {
-        match self.channel {
-            Some(channel) => channel.letters,
-            None => 1,
-        }
+        self.letters
     }
 
     fn branch(&self, state: usize, letter: usize) -> Option<(usize, i16)> {
-        let channel = self.channel?;
-        if state < channel.states && letter < channel.letters {
-            Some(channel.step(state, letter))
-        } else {
-            None
-        }
+        (state < self.states && letter < self.letters).then(|| self.step(state, letter))
     }
 }
 

@@ -1,16 +1,15 @@
-use Rattle.std.proofs.Common.{sym, ◌∙◌}
-use Rattle.trellises.specs.Codes.{code_bit}
-use Rattle.trellises.specs.Coding.{code_bit_below, bit_in}
-use Rattle.trellises.specs.Writing.{written_more, written_all}
+use Rattle.std.proofs.Common.{◌≡◌, ◌+◌, ◌*◌, ◌%◌, ◌^◌, ◌≤◌, length, map, sym, ◌∙◌, bit_or, unsigned_abs, fold, lit<, arith, rules}
+use Rattle.std.proofs.lemmas.List.{length-map}
+use Rattle.std.proofs.lemmas.List.Folds.{fold-map}
+use Rattle.trellises.specs.Codes.{code_bit, code_word}
+use Rattle.trellises.specs.Coding.{shifted_word}
 use Rattle.trellises.proofs.code.word.Goals as goal
-
-pub loop-generator-preserved : goal.loop-generator-preserved
-loop-generator-preserved c = rw c.bit.ensures (
-  bit_in _ _ c.loop-generator.generator-index c.loop-generator.invariant.0 (code_bit_below c.args.register _),
-  written_more 2 (code_bit c.args.register) c.loop-generator.word c.args.generators.now c.loop-generator.generator-index c.loop-generator-test.true ∙ c.loop-generator.invariant.1,
-)
 
 pub returns : goal.returns
 returns c =
-    sym (written_all 2 (code_bit c.args.register) c.loop-generator.word c.args.generators.now c.loop-generator.generator-index c.loop-generator-test.false)
-    ∙ c.loop-generator.invariant.1
+    let r = c.args.register in
+    let gs = map unsigned_abs c.args.generators.now in
+    let few : 0 + length gs ≤ 32 = omega (arith, length-map c.args.generators.now unsigned_abs) in
+    let folded : c.fold.result ≡ fold (λ w g. bit_or (w * 2 ^ 1 % 2 ^ 32) (code_bit r (unsigned_abs g))) 0 c.args.generators.now = search rules in
+    let whole : 0 * 2 ^ length gs + code_word gs r ≡ code_word gs r = omega arith in
+    folded ∙ sym (fold-map _ unsigned_abs 0 c.args.generators.now) ∙ shifted_word r 0 0 gs (lit< tt) few ∙ whole
