@@ -1,6 +1,6 @@
 -- A cascade of lawful trellises is lawful.
 use Rattle.std.specs.Prelude.{◌≡◌, ℕ, ◌*◌, ◌/◌, ◌%◌, ◌<◌, ◌≤◌, Bool, true, false, ℤ, pos, negsuc, Some, None, nat_le, refl}
-use Rattle.std.proofs.Common.{ap, mul-pos, le-div_iff_mul-le, arith, leb-true}
+use Rattle.std.proofs.Common.{ap, mul-pos, le-div_iff_mul-le, leb-true}
 use Rattle.std.proofs.Math.Arith.{digits_lt}
 use Rattle.model.specs.declared.refusal.Refusal.TheVariants.{CascadeStates}
 use Rattle.model.specs.Refusals.{refusal_number}

@@ -1,5 +1,5 @@
 -- The words and the laws of a code.
-use Rattle.std.specs.Prelude.{◌≡◌, ℕ, suc, ◌+◌, ◌-◌, ◌*◌, ◌/◌, ◌%◌, ◌^◌, ◌<◌, ◌≤◌, List, [], ◌∷◌, map, length, take, pos, bit_or, bit_xor}
+use Rattle.std.specs.Prelude.{◌≡◌, ℕ, suc, ◌+◌, ◌-◌, ◌*◌, ◌/◌, ◌%◌, ◌^◌, ◌<◌, ◌≤◌, List, [], ◌∷◌, map, length, pos, bit_or, bit_xor}
 use Rattle.std.proofs.Common.{subst, ◌∙◌, mod-lt, pow-suc, lt_of_lt_of_le, add-one, arith, pow_pos, pow_mono}
 use Rattle.std.proofs.Math.Nat.{mod-eq_of_lt}
 use Rattle.std.proofs.Math.Arith.{digits_lt}

@@ -1,10 +1,10 @@
 -- What the fields of an encoder say of its generators.
-use Rattle.std.specs.Prelude.{◌≡◌, ℕ, ◌^◌, ◌<◌, ◌≤◌, List, length, ℤ, bit_xor, unsigned_abs}
-use Rattle.std.proofs.Common.{arith, rules}
+use Rattle.std.specs.Prelude.{ℕ, ◌^◌, ◌<◌, ◌≤◌, length, bit_xor, unsigned_abs}
+use Rattle.std.proofs.Common.{arith}
 use Rattle.std.proofs.lemmas.List.{length-map}
 use Rattle.arrays.specs.Lists.{list_items, items_few}
 use Rattle.model.specs.Trellises.{Lawful}
-use Rattle.trellises.specs.Codes.{code_word, generators_of, code_check, encoder_meaning}
+use Rattle.trellises.specs.Codes.{code_word, generators_of, encoder_meaning}
 use Rattle.trellises.specs.declared.code.encoder.Encoder.{Encoder}
 use Rattle.trellises.specs.Coding.{label_small, code_lawful}
 
@@ -21,7 +21,3 @@ module _ (e : Encoder) where
 
   pub encoder_lawful : Lawful (encoder_meaning e)
   encoder_lawful = code_lawful e.constraint e.inversion (generators_of e) e.some e.short few inverts
-
--- what an accepted check says
-pub accepted : (k v : ℤ) (gs : List ℤ) → 0 ≡ code_check k v gs → (1 ≤ unsigned_abs k) × (unsigned_abs k ≤ 7) × (length gs ≤ 4) × (unsigned_abs v < 2 ^ length gs)
-accepted k v gs e = search rules

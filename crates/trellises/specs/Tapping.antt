@@ -1,20 +1,19 @@
 -- The sums of taps, one tap on; and the laws of a channel with taps.
-use Rattle.std.specs.Prelude.{◌≡◌, ℕ, zero, suc, ◌+◌, ◌-◌, ◌*◌, ◌/◌, ◌%◌, ◌^◌, ◌<◌, ◌≤◌, Bool, true, false, ◌&&◌, ◌||◌, List, [], ◌∷◌, length, take, drop, ℤ, pos, negsuc, ◌+ℤ◌, ◌*ℤ◌, neg_ℤ, ◌==◌, nat_le, slice_index_or, unsigned_abs, refl}
-use Rattle.std.proofs.Common.{ap, sym, subst, ◌∙◌, ⊎_elim, pow-suc, mul_comm, mul-div_cancel, mul-le-mul, arith}
+use Rattle.std.specs.Prelude.{◌≡◌, ℕ, suc, ◌+◌, ◌-◌, ◌*◌, ◌/◌, ◌%◌, ◌^◌, ◌<◌, ◌≤◌, true, List, [], ◌∷◌, length, take, drop, ℤ, pos, negsuc, ◌+ℤ◌, ◌*ℤ◌, slice_index_or, unsigned_abs}
+use Rattle.std.proofs.Common.{ap, sym, subst, ◌∙◌, pow-suc, mul_comm, mul-div_cancel, mul-le-mul, arith, rules}
 use Rattle.std.proofs.Math.Nat.{pow-succ', one-le-pow, pow-le-pow_right}
 use Rattle.std.proofs.Math.Arith.{digits_lt}
 use Rattle.std.specs.List.{AllByRecursion}
 use Rattle.std.proofs.lemmas.Nat.{div_below}
 use Rattle.std.proofs.lemmas.List.{drop_more}
 use Rattle.std.proofs.lemmas.Int.{ints, unsigned_abs-mul}
-use Rattle.std.proofs.lemmas.Bool.{and_parts, or_cases, leb-true, eqb-true}
+use Rattle.std.proofs.lemmas.Bool.Decides.{nat_tests}
+use Rattle.std.proofs.lemmas.Bool.{and_parts}
 use Rattle.model.specs.Ranges.{InRange}
 use Rattle.model.specs.Trellises.{Lawful, most_states}
-use Rattle.model.specs.declared.refusal.Refusal.TheVariants.{TapsLetters, TapsCount, TapValue}
-use Rattle.model.specs.Refusals.{refusal_number}
-use Rattle.trellises.specs.Checks.{checked, between, all_between, tap_fits, taps_fit}
+use Rattle.trellises.specs.Checks.{tap_fits, taps_fit}
 use Rattle.trellises.specs.Digits.{written, digits_of}
-use Rattle.trellises.specs.Taps.{level, tapped, memory, last_letters, next_state, taps_label, taps, two_or_four, most_taps, taps_check}
+use Rattle.trellises.specs.Taps.{level, tapped, memory, last_letters, next_state, taps_label, taps, taps_check}
 use Rattle.trellises.specs.Filling.{full_lawful}
 use Rattle.trellises.specs.Writing.{written_digits, digits_below, take_digits, digits_above}
 
@@ -27,11 +26,6 @@ tap_size h e = grind (arith, ints)
 -- what one tap adds
 pub term_size : (letters a : ℕ) (h : ℤ) → a < letters → letters ≤ 4 → tap_fits h ≡ true → unsigned_abs (h *ℤ level letters a) ≤ 381
 term_size letters a h below few e = rw unsigned_abs-mul (mul-le-mul (tap_size h e) (level_size letters a below few))
-
-pub between_at : (low high : ℤ) (zs : List ℤ) (i : ℕ) → i < length zs → all_between low high zs ≡ true → between low high (slice_index_or zs i (pos 0)) ≡ true
-between_at low high [] i h e = absurd (omega arith)
-between_at low high (z ∷ zs) zero h e = (and_parts (between low high z) (all_between low high zs) e).0
-between_at low high (z ∷ zs) (suc i) h e = between_at low high zs i (omega arith) (and_parts (between low high z) (all_between low high zs) e).1
 
 -- what all taps add
 pub tapped_size : (letters : ℕ) (hs : List ℤ) (ls : List ℕ) → letters ≤ 4 → taps_fit hs ≡ true → AllByRecursion (λ a. a < letters) ls → unsigned_abs (tapped letters hs ls) ≤ 381 * length hs
@@ -103,34 +97,17 @@ module _ (letters : ℕ) (hs : List ℤ) (some : 1 ≤ letters) (four : letters 
       full_lawful (letters ^ memory hs) letters _ (one-le-pow (memory hs) letters some) few some four
       (λ s a h l. (rw (← next_is letters hs s a tap h l) (next_below letters hs s a tap h l), label_range (last_letters letters hs s a) (letters_below letters hs s a tap h l)))
 
--- a check that goes on to 0 held
-passed : (b : Bool) (r rest : ℕ) → 0 < r → 0 ≡ checked b r rest → (b ≡ true) × (0 ≡ rest)
-passed true r rest h e = (refl, e)
-passed false r rest h e = absurd (omega arith)
+-- as many taps as there may be make few states
+two_few : (k : ℕ) → k ≤ 7 → 2 ^ (k - 1) ≤ most_states
+two_few k h = let p : k - 1 ≤ 6 = omega arith in pow-le-pow_right {n = 2} (omega arith) p
 
--- few enough taps make few enough states
-Few : ℕ → ℕ → Type 0
-Few n k = k ≤ most_taps n → (2 ≤ n) × (n ≤ 4) × (k ≤ 7) × (n ^ (k - 1) ≤ most_states)
-
-few_of_two : (k : ℕ) → Few 2 k
-unfolding Few
-few_of_two k h = let p : k - 1 ≤ 6 = omega arith in (omega arith, omega arith, omega arith, pow-le-pow_right {n = 2} (omega arith) p)
-
-few_of_four : (k : ℕ) → Few 4 k
-unfolding Few
-few_of_four k h = let p : k - 1 ≤ 3 = omega arith in (omega arith, omega arith, omega arith, pow-le-pow_right {n = 4} (omega arith) p)
-
-few : (n k : ℕ) → (n == 2 || n == 4) ≡ true → Few n k
-few n k e = ⊎_elim (λ t. subst (λ m. Few m k) (sym (eqb-true n 2 t)) (few_of_two k)) (λ t. subst (λ m. Few m k) (sym (eqb-true n 4 t)) (few_of_four k)) (or_cases (n == 2) (n == 4) e)
+four_few : (k : ℕ) → k ≤ 4 → 4 ^ (k - 1) ≤ most_states
+four_few k h = let p : k - 1 ≤ 3 = omega arith in pow-le-pow_right {n = 4} (omega arith) p
 
 -- what an accepted check says
-pub accepted : (letters : ℤ) (hs : List ℤ) → 0 ≡ taps_check letters hs → (2 ≤ unsigned_abs letters) × (unsigned_abs letters ≤ 4) × (1 ≤ length hs) × (length hs ≤ 7) × (taps_fit hs ≡ true) × (unsigned_abs letters ^ memory hs ≤ 64)
-unfolding Few
-accepted (negsuc n) hs e = absurd (omega arith)
-accepted (pos n) hs e =
-    let first = passed (two_or_four (pos n)) (refusal_number TapsLetters) _ (omega arith) e in
-    let second = passed (nat_le 1 (length hs) && nat_le (length hs) (most_taps n)) (refusal_number TapsCount) _ (omega arith) first.1 in
-    let third = passed (taps_fit hs) (refusal_number TapValue) 0 (omega arith) second.1 in
-    let counts = and_parts (nat_le 1 (length hs)) (nat_le (length hs) (most_taps n)) second.0 in
-    let p = few n (length hs) first.0 (leb-true _ _ counts.1) in
-    (p.0, p.1, leb-true 1 (length hs) counts.0, p.2, third.0, p.3)
+pub accepted : (letters : ℤ) (hs : List ℤ) → 0 ≡ taps_check letters hs → record { within : length hs ≤ 7; small : taps_fit hs ≡ true }
+accepted letters hs e = search rules
+
+pub accepted_few : (letters : ℤ) (hs : List ℤ) → 0 ≡ taps_check letters hs → unsigned_abs letters ^ memory hs ≤ most_states
+accepted_few (pos n) hs e = grind (arith, two_few, four_few, nat_tests)
+accepted_few (negsuc n) hs e = absurd (omega arith)

@@ -7,7 +7,7 @@ ghost use Rattle.trellises.specs.Codes.{code_bit, code_word, generators_of, code
 ghost use Rattle.trellises.specs.Encoders.{encoder_lawful};
 
 use crate::or_bare::OrBare;
-use crate::ranges::{all_between, is_between, largest_of};
+use crate::ranges::{all_between, largest_of};
 use arrays::list::FixedList;
 use model::refusal::Refusal;
 use model::trellis::Trellis;
@@ -27,7 +27,7 @@ impl Code {
     pub fn check(constraint: i32, inversion: i32, generators: &[i32]) -> Result<(), Refusal>
         ensures { answer result ≡ code_check constraint inversion generators.now }
     {
-        if !is_between(1, 7, constraint) {
+        if !(1..=7).contains(&constraint) {
             return Err(Refusal::ConstraintLength);
         }
         if !(1..=4).contains(&generators.len()) {
@@ -36,7 +36,7 @@ impl Code {
         if !all_between(1, largest_of(constraint as usize), generators) {
             return Err(Refusal::GeneratorValue);
         }
-        if !is_between(0, largest_of(generators.len()), inversion) {
+        if !(0..=largest_of(generators.len())).contains(&inversion) {
             return Err(Refusal::InversionWord);
         }
         Ok(())
@@ -106,11 +106,9 @@ impl Trellis for Encoder {
 
     fn branch(&self, state: usize, letter: usize) -> Option<(usize, i16)> {
         let states = self.states();
-        if state < states && letter < LETTERS {
+        (state < states && letter < LETTERS).then(|| {
             let register = letter * states + state;
-            Some((register / 2, self.label(register as u32)))
-        } else {
-            None
-        }
+            (register / 2, self.label(register as u32))
+        })
     }
 }

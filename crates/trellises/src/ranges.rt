@@ -3,7 +3,7 @@ ghost use Rattle.std.specs.Prelude.{◌≡◌, ◌≤◌};
 ghost use Rattle.trellises.specs.Checks.{between, all_between, largest};
 
 // Whether low ≤ value ≤ high.
-pub(crate) fn is_between(low: i32, high: i32, value: i32) -> bool
+fn is_between(low: i32, high: i32, value: i32) -> bool
     ensures { result ≡ between low high value }
 {
     (low..=high).contains(&value)

@@ -68,7 +68,7 @@ impl Trellis for Limits {
     fn branch(&self, state: usize, letter: usize) -> Option<(usize, i16)> {
         match letter {
             0 if state < self.most => Some((state + 1, 0)),
-            1 if self.least <= state && state <= self.most => Some((0, 1)),
+            1 if (self.least..=self.most).contains(&state) => Some((0, 1)),
             _ => None,
         }
     }

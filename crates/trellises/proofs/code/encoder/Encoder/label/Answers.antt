@@ -1,5 +1,4 @@
-use Rattle.std.proofs.Common.{◌≡◌, pos, ap, ◌∙◌, arith, w16, rules}
-use Rattle.std.specs.Prelude.{bit_xor}
+use Rattle.std.proofs.Common.{◌≡◌, arith, w16, rules}
 use Rattle.std.proofs.lemmas.Int.{ints, to_z_pos}
 use Rattle.trellises.specs.Codes.{code_word, generators_of}
 use Rattle.trellises.specs.Encoders.{word_small}

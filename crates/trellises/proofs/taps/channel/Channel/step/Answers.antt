@@ -1,7 +1,6 @@
-use Rattle.std.proofs.Common.{◌≡◌, ◌+◌, ◌*◌, ◌^◌, ◌<◌, length, ◌∙◌, w16, SFits, rules}
+use Rattle.std.proofs.Common.{◌^◌, ◌<◌, ◌∙◌, w16, SFits, rules}
 use Rattle.std.proofs.lemmas.Int.{to_z-of_z}
-use Rattle.trellises.specs.Digits.{digits_of}
-use Rattle.trellises.specs.Taps.{memory, tapped, taps_of}
+use Rattle.trellises.specs.Taps.{memory, taps_of}
 use Rattle.trellises.specs.Tapping.{label_is, next_is}
 use Rattle.trellises.proofs.taps.channel.Channel.step.Goals as goal
 
