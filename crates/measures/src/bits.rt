@@ -1,14 +1,15 @@
 // The lowest bits that differ.
 ghost use Rattle.std.specs.Prelude.{◌≡◌, ◌≤◌};
 ghost use Rattle.model.specs.Refusals.{answer};
-ghost use Rattle.measures.specs.BitCounts.{form, differing, bit_count, is_width, bits_check, bits_measure};
+ghost use Rattle.measures.specs.BitCounts.{form, differing, bit_count, bits_check, bits_measure};
 ghost use Rattle.std.proofs.Common.{arith};
 ghost use Rattle.measures.specs.Counting.{differing_le};
 
 use model::measure::Measure;
 use model::refusal::Refusal;
 
-// How many of the lowest bits are compared: none where the width was refused.
+// How many of the lowest bits are compared. No option: a refused width is 0, so that the count itself costs nothing and has
+// no case of its own.
 #[derive(Clone, Copy)]
 pub struct Bits {
     width: u32,
@@ -20,7 +21,7 @@ impl Bits {
     pub fn check(width: i32) -> Result<(), Refusal>
         ensures { answer result ≡ bits_check width }
     {
-        if is_width(width) {
+        if (1..=8).contains(&width) {
             Ok(())
         } else {
             Err(Refusal::BitsWidth)
@@ -31,12 +32,8 @@ impl Bits {
     pub fn new(width: i32) -> Bits
         ensures { bit_count result.width ≡ bits_measure width }
     {
-        if is_width(width) {
-            Bits {
-                width: width as u32,
-            }
-        } else {
-            Bits { width: 0 }
+        Bits {
+            width: Self::check(width).map_or(0, |_| width as u32),
         }
     }
 }
@@ -47,20 +44,8 @@ impl Measure for Bits {
     ghost bounded = { λ m label sample x y. omega (arith, differing_le m.width (form label) (form sample)) };
 
     fn cost(&self, label: i16, sample: i16) -> u32 {
-        count_differing(self.width, form_of(label), form_of(sample))
+        count_differing(self.width, label.cast_unsigned(), sample.cast_unsigned())
     }
-}
-
-fn is_width(width: i32) -> bool
-    ensures { result ≡ is_width width }
-{
-    1 <= width && width <= 8
-}
-
-fn form_of(x: i16) -> u16
-    ensures { result ≡ form x }
-{
-    x.cast_unsigned()
 }
 
 fn count_differing(width: u32, a: u16, b: u16) -> u32

@@ -8,7 +8,7 @@ use model::measure::Measure;
 use model::refusal::Refusal;
 
 // The sample that stands for one that was lost.
-const ERASED: i16 = -32768;
+const ERASED: i16 = i16::MIN;
 
 // A measure under which erased samples cost nothing.
 #[derive(Clone, Copy, Drop)]

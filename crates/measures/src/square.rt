@@ -13,7 +13,7 @@ impl Measure for Square {
     ghost bounded = { Prim.search rules };
 
     fn cost(&self, label: i16, sample: i16) -> u32 {
-        let apart = (i32::from(label) - i32::from(sample)).unsigned_abs();
+        let apart = u32::from(label.abs_diff(sample));
         apart * apart
     }
 }
