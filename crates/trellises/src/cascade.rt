@@ -8,6 +8,7 @@ use model::refusal::Refusal;
 use model::trellis::{MOST_STATES, Trellis};
 
 // The inner trellis takes the outer's labels for its letters; with too many states the cascade is bare.
+// It holds both parts even then: to let them go would ask more of each than that it is a trellis.
 #[derive(Drop)]
 pub struct Cascade<O, I> {
     outer: O,

@@ -3,7 +3,8 @@ ghost use Rattle.model.specs.Bare.{or_bare, or_bare_lawful};
 
 use model::trellis::Trellis;
 
-// What was accepted; without it the trellis is bare.
+// What was accepted; without it the trellis is bare. A type of its own, so that each kind of parameters can have its check and
+// its making on it.
 #[derive(Clone, Copy)]
 pub struct OrBare<P> {
     pub(crate) accepted: Option<P>,
