@@ -1,11 +1,12 @@
 -- The words and the laws of a code.
-use Rattle.std.specs.Prelude.{◌≡◌, ℕ, suc, ◌+◌, ◌-◌, ◌*◌, ◌/◌, ◌%◌, ◌^◌, ◌<◌, ◌≤◌, List, [], ◌∷◌, map, length, pos, bit_or, bit_xor}
-use Rattle.std.proofs.Common.{subst, ◌∙◌, mod-lt, pow-suc, lt_of_lt_of_le, add-one, arith, pow_pos, pow_mono}
+use Rattle.std.specs.Prelude.{◌≡◌, ℕ, suc, ◌+◌, ◌-◌, ◌*◌, ◌/◌, ◌%◌, ◌^◌, ◌<◌, ◌≤◌, List, [], ◌∷◌, map, length, ℤ, pos, bit_or, bit_xor, unsigned_abs}
+use Rattle.std.proofs.Common.{sym, subst, ◌∙◌, lit<, mod-lt, pow-suc, lt_of_lt_of_le, add-one, arith, pow_pos, pow_mono}
 use Rattle.std.proofs.Math.Nat.{mod-eq_of_lt}
 use Rattle.std.proofs.Math.Arith.{digits_lt}
 use Rattle.std.specs.List.{AllByRecursion, fold}
 use Rattle.std.proofs.lemmas.Nat.{div_below, xor_lt, or_shifted}
 use Rattle.std.proofs.lemmas.List.{length-map}
+use Rattle.std.proofs.lemmas.List.Folds.{fold-map}
 use Rattle.std.proofs.lemmas.Int.{ints}
 use Rattle.model.specs.Ranges.{InRange}
 use Rattle.model.specs.Trellises.{Lawful}
@@ -14,7 +15,7 @@ use Rattle.trellises.specs.Filling.{full_lawful}
 use Rattle.trellises.specs.Writing.{written_step, written_below}
 
 -- a bit is 0 or 1
-pub code_bit_below : (r g : ℕ) → code_bit r g < 2
+code_bit_below : (r g : ℕ) → code_bit r g < 2
 code_bit_below r g = mod-lt _ (omega arith)
 
 bits_below : (r : ℕ) (gs : List ℕ) → AllByRecursion (λ d. d < 2) (map (code_bit r) gs)
@@ -22,7 +23,7 @@ bits_below r [] = tt
 bits_below r (g ∷ gs) = (code_bit_below r g, bits_below r gs)
 
 -- n generators give n bits
-pub code_word_below : (gs : List ℕ) (r : ℕ) → code_word gs r < 2 ^ length gs
+code_word_below : (gs : List ℕ) (r : ℕ) → code_word gs r < 2 ^ length gs
 code_word_below gs r = simp length-map at (written_below 2 (map (code_bit r) gs) (bits_below r gs))
 
 -- one more bit
@@ -38,13 +39,21 @@ shifted w d i h room k =
     rw (mod-eq_of_lt fits) (or_shifted w 1 d k ∙ omega arith)
 
 -- bits that are shifted in one by one write the word
-pub shifted_word : (r w i : ℕ) (gs : List ℕ) → w < 2 ^ i → i + length gs ≤ 32 → fold (λ w g. bit_or (w * 2 ^ 1 % 2 ^ 32) (code_bit r g)) w gs ≡ w * 2 ^ length gs + code_word gs r
+shifted_word : (r w i : ℕ) (gs : List ℕ) → w < 2 ^ i → i + length gs ≤ 32 → fold (λ w g. bit_or (w * 2 ^ 1 % 2 ^ 32) (code_bit r g)) w gs ≡ w * 2 ^ length gs + code_word gs r
 shifted_word r w i [] h room = omega arith
 shifted_word r w i (g ∷ gs) h room =
     let d = code_bit r g in
     let below = code_bit_below r g in
     let P : ℕ → Type 0 = λ n. (2 * w + d) * 2 ^ n + code_word gs r ≡ w * 2 ^ suc n + code_word (g ∷ gs) r in
     rw (shifted w d i h (omega arith) below) (shifted_word r (2 * w + d) (i + 1) gs (bit_in w d i h below) (omega arith) ∙ subst P (length-map gs (code_bit r)) (written_step 2 w d (map (code_bit r) gs)))
+
+-- and so for few generators, as they are given
+pub shifted_in : (r : ℕ) (gs : List ℤ) → length gs ≤ 4 → fold (λ w g. bit_or (w * 2 ^ 1 % 2 ^ 32) (code_bit r (unsigned_abs g))) 0 gs ≡ code_word (map unsigned_abs gs) r
+shifted_in r gs few =
+    let hs = map unsigned_abs gs in
+    let room : 0 + length hs ≤ 32 = omega (arith, length-map gs unsigned_abs) in
+    let whole : 0 * 2 ^ length hs + code_word hs r ≡ code_word hs r = omega arith in
+    sym (fold-map _ unsigned_abs 0 gs) ∙ shifted_word r 0 0 hs (lit< tt) room ∙ whole
 
 -- the label is a word of the generators' number of bits
 label_below : (v : ℕ) (gs : List ℕ) (r : ℕ) → v < 2 ^ length gs → bit_xor (code_word gs r) v < 2 ^ length gs

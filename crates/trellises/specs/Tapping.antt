@@ -1,7 +1,7 @@
 -- The sums of taps, one tap on; and the laws of a channel with taps.
 use Rattle.std.specs.Prelude.{◌≡◌, ℕ, suc, ◌+◌, ◌-◌, ◌*◌, ◌/◌, ◌%◌, ◌^◌, ◌<◌, ◌≤◌, true, List, [], ◌∷◌, length, take, drop, ℤ, pos, negsuc, ◌+ℤ◌, ◌*ℤ◌, slice_index_or, unsigned_abs}
-use Rattle.std.proofs.Common.{ap, sym, subst, ◌∙◌, pow-suc, mul_comm, mul-div_cancel, mul-le-mul, arith, rules}
-use Rattle.std.proofs.Math.Nat.{pow-succ', one-le-pow, pow-le-pow_right}
+use Rattle.std.proofs.Common.{ap, sym, ◌∙◌, pow-suc, mul_comm, mul-div_cancel, mul-le-mul, arith, rules}
+use Rattle.std.proofs.Math.Nat.{one-le-pow, pow-le-pow_right}
 use Rattle.std.proofs.Math.Arith.{digits_lt}
 use Rattle.std.specs.List.{AllByRecursion}
 use Rattle.std.proofs.lemmas.Nat.{div_below}
@@ -64,9 +64,6 @@ module _ (letters : ℕ) (hs : List ℤ) (s a : ℕ) (tap : 1 ≤ length hs) (st
 
   as_digits : digits_of letters (length hs) (a * letters ^ memory hs + s) ≡ last_letters letters hs s a
   as_digits = ap (λ n. digits_of letters n (a * letters ^ memory hs + s)) (sym counted) ∙ digits_above letters (memory hs) a s state
-
-  pub register_below : a * letters ^ memory hs + s < letters ^ length hs
-  register_below = subst (λ n. a * letters ^ memory hs + s < letters ^ n) counted (rw (pow-succ' letters (memory hs)) (digits_lt letter state))
 
   pub label_is : tapped letters hs (digits_of letters (length hs) (a * letters ^ memory hs + s)) ≡ taps_label letters hs s a
   label_is = ap (tapped letters hs) as_digits

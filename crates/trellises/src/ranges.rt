@@ -2,7 +2,7 @@
 ghost use Rattle.std.specs.Prelude.{◌≡◌, ◌≤◌};
 ghost use Rattle.trellises.specs.Checks.{between, all_between, largest};
 
-// Whether low ≤ value ≤ high.
+// Whether low ≤ value ≤ high. Tried within the chain below, where `contains` leaves a goal that does not close.
 fn is_between(low: i32, high: i32, value: i32) -> bool
     ensures { result ≡ between low high value }
 {
