@@ -1,17 +1,15 @@
-use Rattle.std.proofs.Common.{◌≡◌, true, false, get_or, eq-eqb, ne_eqb}
+use Rattle.std.proofs.Common.{ℕ, ◌+◌, drop, ap, ◌∙◌, rules, tests}
+use Rattle.std.proofs.lemmas.Iterator.{YieldsList-from_slice}
+use Rattle.std.proofs.lemmas.Iterator.Adapters.{YieldsList-from_skip}
+use Rattle.std.proofs.lemmas.Iterator.Consumers.{count_from_yields_List}
+use Rattle.std.proofs.lemmas.Iterator.Search.{YieldsList-from_take_while}
+use Rattle.std.proofs.lemmas.List.Folds.{length-prefix_len}
 use Rattle.lines.specs.Words.{other}
-use Rattle.lines.proofs.Runs.{run_more, run_stop, run_end}
 use Rattle.lines.proofs.lexer.index_of.Goals as goal
 
-pub returns-after-loop-at : goal.returns-after-loop-at
-returns-after-loop-at c = run_end (other c.args.byte) c.args.text.now _ c.loop-at.at c.loop-at-test.false c.loop-at.invariant
-
-pub loop-at-preserved : goal.loop-at-preserved
-loop-at-preserved c =
-    let e : other c.args.byte (get_or c.args.text.now c.loop-at.at 0) ≡ true = rw (ne_eqb _ _ c.if-text-at.true) in
-    run_more (other c.args.byte) c.args.text.now _ c.loop-at.at c.loop-at-test.true e c.loop-at.invariant
-
-pub returns-else-text-at : goal.returns-else-text-at
-returns-else-text-at c =
-    let e : other c.args.byte (get_or c.args.text.now c.loop-at.at 0) ≡ false = rw (eq-eqb _ _ c.if-text-at.false) in
-    run_stop (other c.args.byte) c.args.text.now _ c.loop-at.at c.loop-at-test.true e c.loop-at.invariant
+pub returns : goal.returns
+returns c =
+    let from = c.args.from in
+    let t = c.args.text.now in
+    let test = other c.args.byte in
+    ap (λ (n : ℕ). from + n) (count_from_yields_List c.take_while.result _ c.count.ensures.ran (YieldsList-from_take_while _ test (YieldsList-from_skip from (YieldsList-from_slice t (cc)) (cc)) c.take_while.ensures.closure c.take_while.ensures.done (λ x b q k. search (rules, tests))) ∙ length-prefix_len test (drop from t))
