@@ -2,6 +2,7 @@
 use Rattle.std.proofs.Common.{◌≡◌, ℕ, suc, ◌+◌, ◌<◌, Bool, true, false, cond, List, [], ◌∷◌, length, take, drop, refl, ap, ◌∙◌, one-add, arith}
 use borrow.Author.Tests.{clash}
 use Rattle.std.proofs.lemmas.Bool.{not-true}
+use Rattle.std.proofs.lemmas.List.Folds.{length-prefix_len}
 use Rattle.std.specs.List.{prefix_len}
 use Rattle.lines.specs.Words.{is_space, other, starts_word, onto_first, words}
 
@@ -46,3 +47,7 @@ front_by b bs e h = let n : is_space b ≡ false = not-true _ e in rw (n, one-ad
 pub first_cut : (bs : List ℕ) → starts_word bs ≡ true → words bs ≡ front bs
 first_cut [] h = absurd (clash h)
 first_cut (b ∷ bs) h = front_by b bs h (first_cut bs)
+
+-- how many bytes a run has that begins at a place
+pub run_length : (p : ℕ → Bool) (bs : List ℕ) → length (take (prefix_len p bs) bs) ≡ prefix_len p bs
+run_length p bs = length-prefix_len p bs

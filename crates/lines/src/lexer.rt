@@ -1,7 +1,7 @@
 // Cuts a line into words. A word is a part of the text, handed out with its place there.
-ghost use Rattle.std.specs.Prelude.{◌≡◌, ◌+◌, ◌-◌, ◌^◌, ◌<◌, length, drop};
+ghost use Rattle.std.specs.Prelude.{◌≡◌, ◌+◌, ◌-◌, ◌^◌, ◌<◌, ◌≤◌, length, drop};
 ghost use Rattle.std.specs.Option.{option_map};
-ghost use Rattle.std.specs.List.{prefix_len};
+ghost use Rattle.std.specs.List.{prefix_len, take_while};
 ghost use Rattle.lines.specs.Words.{words, is_space, other, all_digits, figure, first, others};
 
 // A word of the text with its place: a figure is an optional minus and one or more digits, any other word a name.
@@ -58,6 +58,18 @@ impl<'a> Lexer<'a> {
         }
     }
 
+    // The lexer after some bytes more.
+    fn ahead(self, bytes: usize) -> Lexer<'a>
+        requires { bytes ≤ length self.rest.now }
+        ensures rest { result.rest.now ≡ drop bytes self.entry.rest.now }
+        ensures at { result.at ≡ self.entry.at + bytes }
+    {
+        Lexer {
+            rest: &self.rest[bytes..],
+            at: self.at + bytes,
+        }
+    }
+
     // The next word, or nothing where only spaces are left.
     pub fn next_word(&mut self) -> Option<Word<'a>>
         ensures word { option_map spelled result ≡ next_word self.old }
@@ -65,32 +77,37 @@ impl<'a> Lexer<'a> {
         ensures others { pending self.new ≡ others (pending self.old) }
         ensures rest { self.new.rest.now ≡ drop (self.new.at - self.old.at) self.old.rest.now }
     {
-        let (spaces, after) = self.rest.split_at(leading_spaces(self.rest));
-        if after.is_empty() {
+        let start = self.ahead(leading_spaces(self.rest));
+        if start.rest.is_empty() {
             return None;
         }
-        let place = self.at + spaces.len();
-        let (word, rest) = after.split_at(index_of(after, 0, b' '));
-        *self = Lexer {
-            rest,
-            at: place + word.len(),
-        };
-        Some(Word::at(word, place))
+        let length = bytes_before(start.rest, b' ');
+        let (word, _) = start.rest.split_at(length);
+        *self = start.ahead(length);
+        Some(Word::at(word, start.at))
     }
 }
 
 // How many spaces a text begins with.
 fn leading_spaces(text: &[u8]) -> usize
-    ensures { result ≡ prefix_len is_space text.now }
+    ensures { result ≡ length (take_while is_space text.now) }
 {
     text.iter().take_while(|b| **b == b' ').count()
 }
 
+// How many bytes stand before another one, or all where it is not there.
+fn bytes_before(text: &[u8], byte: u8) -> usize
+    ensures { result ≡ length (take_while (other byte) text.now) }
+{
+    text.iter().take_while(|b| **b != byte).count()
+}
+
 // Where a byte next stands, from a place on, or the end of the text.
+#[tactic(auto, using(crate::proofs::Runs::run_length))]
 pub fn index_of(text: &[u8], from: usize, byte: u8) -> usize
     ensures { result ≡ from + prefix_len (other byte) (drop from text.now) }
 {
-    from + text.iter().skip(from).take_while(|b| **b != byte).count()
+    from + bytes_before(text.get(from..).unwrap_or_default(), byte)
 }
 
 fn is_figure(word: &[u8]) -> bool
