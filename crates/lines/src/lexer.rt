@@ -36,7 +36,7 @@ impl<'a> Word<'a> {
 }
 
 // Hands out the words of a text, from a place in it on, one after the other: the bytes that are left, and the place of
-// the first of them.
+// the first of them. Its clauses name both, since a view as the words alone would lose their places.
 #[derive(Clone, Copy)]
 pub struct Lexer<'a> {
     rest: &'a [u8],

@@ -26,6 +26,7 @@ fn numeral(base: u32, digits: &[u8]) -> Option<u32>
     if digits.is_empty() || digits.len() > 6 {
         return None;
     }
+    // A fold's closure could not name how far the value has grown, which keeps the sum in range.
     let mut value = 0;
     for b in digits {
         let digit = digit_of(base, *b)?;

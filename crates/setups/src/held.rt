@@ -65,9 +65,7 @@ impl HeldLines {
             Line::End(line) => hold(&mut self.end, line, place),
         }
     }
-}
 
-impl HeldLines {
     // The kind of trellis that the lines are an accepted set for.
     fn trellis(&self) -> Option<TrellisSetup>
         ensures { result ≡ held_trellis self.now }
