@@ -10,17 +10,11 @@ use Rattle.setups.specs.Described.{Spells, Reordered, nothing, keep, swap, after
 use Rattle.setups.specs.Lines.{Read, gathered, gathered_from, follow, read_lines}
 use Rattle.setups.specs.Setups.{held_setup, setup_of}
 use Rattle.setups.specs.Texts.{lines_of, text_of}
-use Rattle.setups.proofs.Spelling.{onto, heard, reads_spelt, spelt_reads}
+use Rattle.setups.proofs.Spelling.{ok_same, not_ok, onto, heard, reads_spelt, spelt_reads}
 use Rattle.setups.proofs.Ordering.{gathered_setup, onto_alike, respelt}
 use Rattle.descriptions.specs.Checks.{answers, first_fault}
 use Rattle.descriptions.specs.Descriptions.{most_bytes, too_long, unless_fault, set_up, description, Describes, AnyOrder}
 use Rattle.descriptions.proofs.Faults.{all_accept, none_refuses}
-
-not_ok : {X Z : Type 0} {x : X} {z : Z} → ◌≡◌ {A = Result X Z} (Err z) (Ok x) → ⊥
-not_ok e = let z : ◌≡◌ {A = ℕ} 0 1 = cc in omega arith
-
-ok_same : {X Z : Type 0} {x y : X} → ◌≡◌ {A = Result X Z} (Ok x) (Ok y) → x ≡ y
-ok_same e = cc
 
 -- what the lines give is what a text spells
 held_is : (fs : List Line) (hs : List Read) → heard hs ≡ onto fs [] → (text : List ℕ) → Spells text fs → held_setup (gathered hs) ≡ setup_of fs

@@ -6,7 +6,7 @@ use Rattle.lines.specs.declared.form.RllLine.{RllLine}
 use Rattle.lines.specs.declared.form.TapsLine.{TapsLine}
 use Rattle.lines.specs.declared.form.MeasureLine.{MeasureLine}
 use Rattle.lines.specs.declared.form.MeasureLine.TheVariants.{Square as SquareLine, Bits as BitsLine}
-use Rattle.lines.specs.Lists.{list_items}
+use Rattle.arrays.specs.Lists.{list_items}
 use Rattle.setups.specs.declared.setup.TrellisSetup.{TrellisSetup}
 use Rattle.setups.specs.declared.setup.TrellisSetup.TheVariants.{Taps as TapsSetup, Code as CodeSetup, CodeOverTaps as CodeOverTapsSetup, RllOverTaps as RllOverTapsSetup}
 use Rattle.trellises.specs.Cascades.{cascade_trellis, cascade_meaning}

@@ -10,7 +10,7 @@ use Rattle.lines.specs.declared.form.RllLine.{RllLine}
 use Rattle.lines.specs.declared.form.TapsLine.{TapsLine}
 use Rattle.lines.specs.declared.form.MeasureLine.{MeasureLine}
 use Rattle.lines.specs.declared.form.MeasureLine.TheVariants.{Square, Bits}
-use Rattle.lines.specs.Lists.{list_items}
+use Rattle.arrays.specs.Lists.{list_items}
 use Rattle.setups.specs.declared.held.Placed.{Placed}
 use Rattle.setups.specs.declared.held.HeldLines.{HeldLines}
 use Rattle.setups.specs.declared.setup.Setup.{Setup}

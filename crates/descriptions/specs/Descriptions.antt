@@ -2,7 +2,7 @@
 use Rattle.std.specs.Prelude.{◌≡◌, ℕ, ◌≤◌, Bool, cond, List, [], length, Some, None, Ok, Err, Option, Result, nat_le}
 use Rattle.model.specs.declared.refusal.Layer.TheVariants.{Blocks, Lines}
 use Rattle.model.specs.declared.refusal.Refusal.TheVariants.{LineSet, RecordingLarge}
-use Rattle.model.specs.Refusals.{refusal_number, layer_number, Refused}
+use Rattle.model.specs.Refusals.{Refused, refused_at}
 use Rattle.lines.specs.declared.form.Line.{Line}
 use Rattle.setups.specs.declared.held.HeldLines.{HeldLines}
 use Rattle.setups.specs.declared.setup.Setup.{Setup}
@@ -21,11 +21,11 @@ is_short text = nat_le (length text) most_bytes
 
 -- a longer description fits no recording
 abbrev pub too_long : Refused
-too_long = record { number = refusal_number RecordingLarge; layer = layer_number Blocks; place = 0 }
+too_long = refused_at RecordingLarge Blocks 0
 
 -- the lines are no accepted set: the place is where the text begins
 abbrev pub no_set : ℕ → Refused
-no_set from = record { number = refusal_number LineSet; layer = layer_number Lines; place = from }
+no_set from = refused_at LineSet Lines from
 
 abbrev pub unless_fault : Option Refused → Setup → Result Setup Refused
 unless_fault None s = Ok s

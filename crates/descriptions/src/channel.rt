@@ -23,7 +23,7 @@ pub enum Channel {
     RllOverTaps(Cascade<RunLength, Taps>),
 }
 
-// The trellis of a code line.
+// The trellis of a code line. These three are functions, since a From between two types of other crates is not allowed.
 pub fn code_from(line: &CodeLine) -> Code
     ensures { code_meaning result ≡ code_of line.now }
 {
@@ -48,11 +48,11 @@ pub fn run_length_from(line: &RllLine) -> RunLength
     RunLength::new(line.d, line.k)
 }
 
-impl Channel {
-    // The trellis of a setup; refused parameters make the bare one.
-    pub fn new(setup: &TrellisSetup) -> Channel
-        ensures { channel_meaning result ≡ channel_of setup.now }
-    {
+// The trellis of a setup; refused parameters make the bare one.
+impl From<&TrellisSetup> for Channel {
+    ghost from_gives = { λ setup channel. channel_meaning channel ≡ channel_of setup.now };
+
+    fn from(setup: &TrellisSetup) -> Channel {
         match setup {
             TrellisSetup::Taps(taps) => Channel::Taps(taps_from(taps)),
             TrellisSetup::Code(code) => Channel::Code(code_from(code)),
@@ -65,6 +65,14 @@ impl Channel {
                 taps_from(taps),
             )),
         }
+    }
+}
+
+impl Channel {
+    pub fn new(setup: &TrellisSetup) -> Channel
+        ensures { channel_meaning result ≡ channel_of setup.now }
+    {
+        Channel::from(setup)
     }
 }
 

@@ -17,27 +17,19 @@ use trellises::run_length::RunLength;
 use trellises::taps::Taps;
 
 // Where a line begins, 0 where there is none.
-fn place_of<T>(line: &Option<Placed<T>>) -> usize
+fn place_of<T: Copy>(line: &Option<Placed<T>>) -> usize
     ensures { result ≡ place line.now }
 {
-    match line {
-        Some(line) => line.place,
-        None => 0,
-    }
+    line.map_or(0, |line| line.place)
 }
 
 // What a check answers, at the line that it is about.
 fn at<T: Drop>(answered: Result<T, Refusal>, place: usize) -> Result<(), Fault>
     ensures { faulted result ≡ fault_or_none (answer answered) place }
 {
-    match answered {
-        Ok(_) => Ok(()),
-        Err(refusal) => Err(Fault {
-            refusal,
-            layer: Layer::Makers,
-            place,
-        }),
-    }
+    answered
+        .map(|_| ())
+        .map_err(|refusal| refusal.at(Layer::Makers, place))
 }
 
 fn check_taps(line: &TapsLine, place: usize) -> Result<(), Fault>
@@ -77,10 +69,7 @@ fn check_measure(line: &MeasureLine, place: usize) -> Result<(), Fault>
 fn check_anchor(channel: &Channel, state: Option<i32>, place: usize) -> Result<(), Fault>
     ensures { faulted result ≡ fault_or_none (anchor_answer (channel_meaning channel.now) state) place }
 {
-    match state {
-        None => Ok(()),
-        Some(number) => at(state_named(channel, number), place),
-    }
+    state.map_or(Ok(()), |number| at(state_named(channel, number), place))
 }
 
 fn check_trellis(setup: &TrellisSetup, held: &HeldLines) -> Result<(), Fault>
@@ -113,7 +102,7 @@ fn check_others(setup: &Setup, held: &HeldLines) -> Result<(), Fault>
     ensures { faulted result ≡ first_fault held.now (other_answers setup.now) }
 {
     check_measure(&setup.measure, place_of(&held.measure))?;
-    let channel = Channel::new(&setup.trellis);
+    let channel = Channel::from(&setup.trellis);
     check_anchor(&channel, setup.start, place_of(&held.start))?;
     check_anchor(&channel, setup.end, place_of(&held.end))
 }

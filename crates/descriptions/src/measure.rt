@@ -30,11 +30,11 @@ impl Measure for ChannelMeasure {
     }
 }
 
-impl ChannelMeasure {
-    // The measure of a line, not yet under erasing; a refused width costs nothing.
-    fn below(line: &MeasureLine) -> ChannelMeasure
-        ensures { measure_meaning result ≡ measure_below line.now }
-    {
+// The measure of a line, not yet under erasing; a refused width costs nothing.
+impl From<&MeasureLine> for ChannelMeasure {
+    ghost from_gives = { λ line measure. measure_meaning measure ≡ measure_below line.now };
+
+    fn from(line: &MeasureLine) -> ChannelMeasure {
         match line {
             MeasureLine::Square => ChannelMeasure::Square(Square),
             MeasureLine::Bits(width) => ChannelMeasure::Bits(Bits::new(*width)),
@@ -46,5 +46,5 @@ impl ChannelMeasure {
 pub fn measure_from(line: &MeasureLine) -> Erasing<ChannelMeasure>
     ensures { erasing (measure_meaning result.below) ≡ measure_of line.now }
 {
-    Erasing::new(ChannelMeasure::below(line))
+    Erasing::new(ChannelMeasure::from(line))
 }

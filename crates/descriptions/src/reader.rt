@@ -28,24 +28,15 @@ fn is_short_from(bytes: &[u8], from: usize) -> bool
     bytes.len().saturating_sub(from) <= MOST_BYTES
 }
 
+// The reading alone: that it accepts exactly what describes a setup follows from its value, not from its steps.
 fn read(bytes: &[u8], from: usize) -> Result<Setup, Fault>
     ensures { outcome result ≡ description from (drop from bytes.now) }
 {
     if !is_short_from(bytes, from) {
-        return Err(Fault {
-            refusal: Refusal::RecordingLarge,
-            layer: Layer::Blocks,
-            place: 0,
-        });
+        return Err(Refusal::RecordingLarge.at(Layer::Blocks, 0));
     }
     let held = read_lines(bytes, from)?;
-    let Some(setup) = held.setup() else {
-        return Err(Fault {
-            refusal: Refusal::LineSet,
-            layer: Layer::Lines,
-            place: from,
-        });
-    };
+    let setup = held.setup().ok_or(Refusal::LineSet.at(Layer::Lines, from))?;
     check_setup(&setup, &held)?;
     Ok(setup)
 }

@@ -1,45 +1,38 @@
--- What the lexer hands out and what it leaves, by the words of the text.
-use Rattle.std.proofs.Common.{◌≡◌, ℕ, ◌+◌, ◌-◌, ◌<◌, ◌≤◌, Bool, true, false, cond, ltb, List, [], ◌∷◌, length, take, drop, Some, None, Option, sym, ap, ◌∙◌, arith, length-drop, le-ltb, lt-ltb}
-use Rattle.std.proofs.lemmas.List.{drop-drop, drop_all}
-use Rattle.std.proofs.lemmas.List.Sums.{prefix_len-le-length}
+-- What the lexer hands out and what it leaves, by the words of the bytes that are left.
+use Rattle.std.proofs.Common.{◌≡◌, ℕ, ◌+◌, ◌<◌, true, false, cond, ltb, List, [], ◌∷◌, length, take, drop, Some, None, Option, sym, ap, ◌∙◌, arith, length-drop, le-ltb, lt-ltb}
+use Rattle.std.proofs.lemmas.List.{nil_from_length}
 use Rattle.std.specs.List.{prefix_len}
-use Rattle.lines.specs.Words.{is_space, other, words, figure, Spelled, word_at, word_start, starts_word}
+use Rattle.lines.specs.Words.{is_space, other, words, starts_word}
+use Rattle.lines.specs.Lexers.{Spelled, spelled_at, word_at}
 use Rattle.lines.proofs.Runs.{spaces_skipped, word_starts, first_cut}
 
-module _ (t : List ℕ) (at f e : ℕ) (start : f ≡ word_start t at) (stop : e ≡ f + prefix_len (other 32) (drop f t)) where
-  rest_is : drop (prefix_len is_space (drop at t)) (drop at t) ≡ drop f t
-  rest_is = drop-drop (prefix_len is_space (drop at t)) at t ∙ ap (λ (k : ℕ). drop k t) (sym start)
+module _ (r a : List ℕ) (n : ℕ) (run : n ≡ prefix_len is_space r) (rest : a ≡ drop n r) where
+  after : a ≡ drop (prefix_len is_space r) r
+  after = rest ∙ ap (λ (k : ℕ). drop k r) run
 
-  same_words : words (drop at t) ≡ words (drop f t)
-  same_words = sym (spaces_skipped (drop at t)) ∙ ap words rest_is
+  same : words r ≡ words a
+  same = sym (spaces_skipped r) ∙ ap words (sym after)
 
-  run : prefix_len (other 32) (drop f t) ≡ e - f
-  run = omega arith
+  abbrev handed : ℕ → Option Spelled
+  handed p = cond (ltb (prefix_len is_space r) (length r)) (Some (word_at (drop (prefix_len is_space r) r) (p + prefix_len is_space r))) None
 
-  pub ends_within : f < length t → e ≤ length t
-  ends_within h = let l = prefix_len-le-length (other 32) (drop f t) in omega (arith, length-drop f t)
+  pub none_left : length a ≡ 0 → words r ≡ []
+  none_left h = same ∙ ap words (nil_from_length a h)
 
-  pub word_cut : f < length t → words (drop at t) ≡ take (e - f) (drop f t) ∷ words (drop e t)
-  word_cut h =
-      let more : prefix_len is_space (drop at t) < length (drop at t) = omega (arith, length-drop at t) in
-      let begins : starts_word (drop f t) ≡ true = ap starts_word (sym rest_is) ∙ word_starts (drop at t) more in
-      let after : drop (prefix_len (other 32) (drop f t)) (drop f t) ≡ drop e t = drop-drop (prefix_len (other 32) (drop f t)) f t ∙ ap (λ (k : ℕ). drop k t) (sym stop) in
-      same_words ∙ first_cut (drop f t) begins ∙ ap (λ (k : ℕ). take k (drop f t) ∷ words (drop (prefix_len (other 32) (drop f t)) (drop f t))) run ∙ ap (λ (l : List ℕ). take (e - f) (drop f t) ∷ words l) after
+  pub no_word : length a ≡ 0 → (p : ℕ) → None ≡ handed p
+  no_word h p = let past : ltb (prefix_len is_space r) (length r) ≡ false = le-ltb _ _ (omega (arith, length-drop n r, ap length rest)) in rw past
 
-  pub none_left : length t ≤ f → words (drop at t) ≡ []
-  none_left h = same_words ∙ ap words (drop_all f t h)
+  module _ (some : length a ≡ 0 → ⊥) (m : ℕ) (stop : m ≡ prefix_len (other 32) a) where
+    within : prefix_len is_space r < length r
+    within = omega (arith, length-drop n r, ap length rest)
 
-  pub none_after : length t ≤ f → words (drop e t) ≡ []
-  none_after h = ap words (drop_all e t (omega arith))
+    pub word_cut : words r ≡ take m a ∷ words (drop m a)
+    word_cut = same ∙ first_cut a (ap starts_word after ∙ word_starts r within) ∙ ap (λ (k : ℕ). take k a ∷ words (drop k a)) (sym stop)
 
-  pub no_word : length t ≤ f → None ≡ cond (ltb (word_start t at) (length t)) (Some (word_at t (word_start t at))) None
-  no_word h = let k : ltb (word_start t at) (length t) ≡ false = le-ltb _ _ (omega arith) in rw k
-
-  pub word_is : (r : Bool) → f < length t → r ≡ figure (take (e - f) (drop f t)) → Some (record { is_figure = r; bytes = take (e - f) (drop f t); place = f }) ≡ cond (ltb (word_start t at) (length t)) (Some (word_at t (word_start t at))) None
-  word_is r h hr =
-      let lt : ltb (word_start t at) (length t) ≡ true = lt-ltb _ _ (omega arith) in
-      let cut : Spelled → Option Spelled = λ s. Some s in
-      rw lt
-      (ap (λ (b : Bool). cut (record { is_figure = b; bytes = take (e - f) (drop f t); place = f })) hr
-      ∙ ap (λ (k : ℕ). cut (record { is_figure = figure (take k (drop f t)); bytes = take k (drop f t); place = f })) (sym run)
-      ∙ ap (λ (p : ℕ). cut (word_at t p)) start)
+    pub word_is : (p : ℕ) → Some (spelled_at (take m a) (p + n)) ≡ handed p
+    word_is p =
+        let lt : ltb (prefix_len is_space r) (length r) ≡ true = lt-ltb _ _ within in
+        rw lt
+        (ap (λ (k : ℕ). Some (spelled_at (take k a) (p + n))) stop
+        ∙ ap (λ (bs : List ℕ). Some (word_at bs (p + n))) after
+        ∙ ap (λ (k : ℕ). Some (word_at (drop (prefix_len is_space r) r) (p + k))) run)

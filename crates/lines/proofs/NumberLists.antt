@@ -1,14 +1,15 @@
 -- How a list of numbers is read, word by word.
-use Rattle.std.proofs.Common.{◌≡◌, ℕ, suc, ◌+◌, ◌-◌, ◌<◌, ◌≤◌, Bool, true, false, cond, ◌&&◌, ltb, leb, List, [], ◌∷◌, ◌++◌, length, set, replicate, ℤ, pos, Some, None, Option, sym, refl, ap, ◌∙◌, append_assoc, append-nil, arith, le-leb}
+use Rattle.std.proofs.Common.{◌≡◌, ℕ, suc, ◌+◌, ◌-◌, ◌<◌, ◌≤◌, Bool, true, false, cond, ◌&&◌, ltb, leb, List, [], ◌∷◌, ◌++◌, length, set, replicate, ℤ, pos, Some, None, Option, sym, refl, ap, ◌∙◌, append_assoc, append-nil, arith, le-leb, lt-ltb}
 use borrow.Author.Tests.{lt-leb}
 use Rattle.std.proofs.lemmas.List.{set_at, length_push}
-use Rattle.std.proofs.lemmas.Bool.{ltb-true, ltb-false, and_right}
+use Rattle.std.proofs.lemmas.Bool.{ltb-false, and_right}
 use Rattle.std.specs.Option.{option_map}
-use Rattle.lines.specs.declared.list.NumberList.{NumberList}
+use Rattle.arrays.specs.declared.list.FixedList.{FixedList}
+use Rattle.arrays.specs.Lists.{with_last}
 use Rattle.lines.specs.declared.number.Radix.{Radix}
 use Rattle.lines.specs.Words.{first, others}
 use Rattle.lines.specs.Numbers.{number_in}
-use Rattle.lines.specs.Lists.{list_from, with_last, in_front, all_numbers, number_list}
+use Rattle.lines.specs.Lists.{list_from, in_front, all_numbers, number_list}
 
 pub list_push : (xs : List ℤ) (x : ℤ) → length xs < 7 → with_last (list_from xs) x ≡ list_from (xs ++ x ∷ [])
 list_push xs x h =
@@ -44,7 +45,7 @@ either_none false o e = refl
 
 module _ (r : Radix) (ws : List (List ℕ)) where
   -- how far the reading has come: the numbers so far, and the words that are left
-  pub record Reads (n : NumberList) (left : List (List ℕ)) : Type 0 where
+  pub record Reads (n : FixedList ℤ 7) (left : List (List ℕ)) : Type 0 where
     pub xs : List ℤ
     pub is : n ≡ list_from xs
     pub few : length xs ≤ 7
@@ -58,18 +59,19 @@ module _ (r : Radix) (ws : List (List ℕ)) where
   pub reads_none : Reads (list_from []) ws
   reads_none = record { xs = []; is = refl; few = omega arith; count = omega arith; values = same_onto_nothing (all_numbers r ws) }
 
-  module _ (n : NumberList) (left : List (List ℕ)) (h : Reads n left) where
+  module _ (n : FixedList ℤ 7) (left : List (List ℕ)) (h : Reads n left) where
     len_is : n.len ≡ length h.xs
-    len_is = ap (λ (m : NumberList). m.len) h.is
+    len_is = ap (λ (m : FixedList ℤ 7). m.len) h.is
 
-    pub reads_more : {w : List ℕ} (x : ℤ) → Some w ≡ first left → Some x ≡ number_in r w → ltb n.len 7 ≡ true → Reads (with_last n x) (others left)
-    reads_more {w} x e v room =
+    pub reads_more : {w : List ℕ} (x : ℤ) → Some w ≡ first left → Some x ≡ number_in r w → n.len < 7 → (after : FixedList ℤ 7) → after ≡ cond (ltb n.len 7) (with_last n x) n → Reads after (others left)
+    reads_more {w} x e v room after pushed =
         let cut = first_of left e in
-        let small : length h.xs < 7 = omega (arith, ltb-true _ _ room, len_is) in
+        let small : length h.xs < 7 = omega (arith, len_is) in
+        let full : ltb n.len 7 ≡ true = lt-ltb _ _ room in
         let l : length left ≡ suc (length (others left)) = ap length cut in
         record {
           xs = h.xs ++ x ∷ [];
-          is = ap (λ (m : NumberList). with_last m x) h.is ∙ list_push h.xs x small;
+          is = rw full at pushed ∙ ap (λ (m : FixedList ℤ 7). with_last m x) h.is ∙ list_push h.xs x small;
           few = omega (arith, length_push h.xs x);
           count = omega (arith, h.count, length_push h.xs x);
           values = h.values ∙ ap (λ (k : List (List ℕ)). onto h.xs (all_numbers r k)) cut ∙ ap (λ (o : Option ℤ). onto h.xs (in_front o (all_numbers r (others left)))) (sym v) ∙ onto_more h.xs x (all_numbers r (others left));
@@ -101,4 +103,4 @@ module _ (r : Radix) (ws : List (List ℕ)) where
         let a : leb 1 (length ws) ≡ true = le-leb _ _ (omega (arith, ended e, len_is)) in
         let b : leb (length ws) 7 ≡ true = le-leb _ _ (omega (arith, ended e, h.few)) in
         let values : all_numbers r ws ≡ Some h.xs = h.values ∙ ap (λ (k : List (List ℕ)). onto h.xs (all_numbers r k)) (none_of left e) ∙ ap (λ (l : List ℤ). Some l) (append-nil h.xs) in
-        rw (a, b) (ap (λ (m : NumberList). Some m) h.is ∙ ap (option_map list_from) (sym values))
+        rw (a, b) (ap (λ (m : FixedList ℤ 7). Some m) h.is ∙ ap (option_map list_from) (sym values))

@@ -1,20 +1,10 @@
--- A loop that goes to the end of a run of bytes, and the words that such runs are.
-use Rattle.std.proofs.Common.{◌≡◌, ℕ, suc, ◌+◌, ◌<◌, ◌≤◌, Bool, true, false, cond, List, [], ◌∷◌, length, get_or, take, drop, refl, ap, ◌∙◌, one-add, arith}
+-- The words that runs of bytes are.
+use Rattle.std.proofs.Common.{◌≡◌, ℕ, suc, ◌+◌, ◌<◌, Bool, true, false, cond, List, [], ◌∷◌, length, take, drop, refl, ap, ◌∙◌, one-add, arith}
 use borrow.Author.Tests.{clash}
 use Rattle.std.proofs.lemmas.Bool.{not-true}
-use Rattle.std.proofs.lemmas.List.Sums.{prefix_len-drop_yes, prefix_len-drop_no, prefix_len-drop_all}
+use Rattle.std.proofs.lemmas.List.Folds.{length-prefix_len}
 use Rattle.std.specs.List.{prefix_len}
 use Rattle.lines.specs.Words.{is_space, other, starts_word, onto_first, words}
-
-module _ (p : ℕ → Bool) (t : List ℕ) (total : ℕ) where
-  pub run_more : (n : ℕ) → n < length t → p (get_or t n 0) ≡ true → n + prefix_len p (drop n t) ≡ total → (n + 1) + prefix_len p (drop (n + 1) t) ≡ total
-  run_more n h e inv = let m = prefix_len-drop_yes p t n 0 h e in omega arith
-
-  pub run_stop : (n : ℕ) → n < length t → p (get_or t n 0) ≡ false → n + prefix_len p (drop n t) ≡ total → n ≡ total
-  run_stop n h e inv = let m = prefix_len-drop_no p t n 0 h e in omega arith
-
-  pub run_end : (n : ℕ) → length t ≤ n → n + prefix_len p (drop n t) ≡ total → n ≡ total
-  run_end n h inv = let m = prefix_len-drop_all p t n h in omega arith
 
 -- spaces in front change no word
 skipped_by : (b : ℕ) (bs : List ℕ) (t : Bool) → is_space b ≡ t → words (drop (prefix_len is_space bs) bs) ≡ words bs → words (drop (cond t (1 + prefix_len is_space bs) 0) (b ∷ bs)) ≡ cond t (words bs) (words (b ∷ bs))
@@ -57,3 +47,7 @@ front_by b bs e h = let n : is_space b ≡ false = not-true _ e in rw (n, one-ad
 pub first_cut : (bs : List ℕ) → starts_word bs ≡ true → words bs ≡ front bs
 first_cut [] h = absurd (clash h)
 first_cut (b ∷ bs) h = front_by b bs h (first_cut bs)
+
+-- how many bytes a run has that begins at a place
+pub run_length : (p : ℕ → Bool) (bs : List ℕ) → length (take (prefix_len p bs) bs) ≡ prefix_len p bs
+run_length p bs = length-prefix_len p bs

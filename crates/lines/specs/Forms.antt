@@ -1,6 +1,7 @@
 -- The six forms of a line.
 use Rattle.std.specs.Prelude.{ℕ, ◌-◌, Bool, true, false, cond, not, ◌&&◌, ◌||◌, List, [], ◌∷◌, length, ℤ, Some, None, codes, Option, ◌==◌, nat_le, slice_index_or}
 use Rattle.std.specs.Option.{option_map}
+use Rattle.std.specs.List.{list_all}
 use Rattle.std.specs.Str.{bytes_eq}
 use Rattle.lines.specs.declared.form.MeasureLine.TheVariants.{Square, Bits}
 use Rattle.lines.specs.declared.form.Line.{Line}
@@ -40,9 +41,13 @@ measure_form ws =
     (λ w. cond (bytes_eq w (codes "square")) (cond (none_left (others ws)) (Some (Measure Square)) None)
     (cond (bytes_eq w (codes "bits")) (then (first_number Decimal (others ws)) (λ n. cond (none_left (others (others ws))) (Some (Measure (Bits n))) None)) None))
 
+-- `any`, or a number
+abbrev pub anchor_in : List ℕ → Option (Option ℤ)
+anchor_in w = cond (bytes_eq w (codes "any")) (Some None) (option_map Some (decimal w))
+
 -- `any`, or a number, and nothing more
 abbrev pub anchor_form : List (List ℕ) → Option (Option ℤ)
-anchor_form ws = then (first ws) (λ w. cond (none_left (others ws)) (cond (bytes_eq w (codes "any")) (Some None) (option_map Some (decimal w))) None)
+anchor_form ws = then (first ws) (λ w. cond (none_left (others ws)) (anchor_in w) None)
 
 -- the form that the first word names, of the words after it
 abbrev pub form_of : List (List ℕ) → Option Line
@@ -56,12 +61,15 @@ abbrev pub line_byte : ℕ → Bool
 line_byte b = (nat_le 97 b && nat_le b 122) || (nat_le 48 b && nat_le b 57) || b == 45 || is_space b
 
 abbrev pub line_bytes : List ℕ → Bool
-line_bytes [] = true
-line_bytes (b ∷ bs) = line_byte b && line_bytes bs
+line_bytes bs = list_all line_byte bs
+
+-- bytes with no space at either end
+abbrev pub bare_ends : List ℕ → Bool
+bare_ends bs = not (is_space (slice_index_or bs 0 32)) && not (is_space (slice_index_or bs (length bs - 1) 32))
 
 -- words parted by spaces, with no space at either end
 abbrev pub well_spaced : List ℕ → Bool
-well_spaced bs = not (is_space (slice_index_or bs 0 32)) && not (is_space (slice_index_or bs (length bs - 1) 32)) && line_bytes bs
+well_spaced bs = bare_ends bs && line_bytes bs
 
 -- what a line, without the byte that ends it, says; nothing where it has none of the forms
 abbrev pub line_form : List ℕ → Option Line

@@ -1,20 +1,13 @@
 -- The numbers that stand at the end of a line.
-use Rattle.std.specs.Prelude.{ℕ, ◌+◌, ◌-◌, min, cond, ◌&&◌, List, [], ◌∷◌, ◌++◌, length, take, replicate, ℤ, pos, Some, None, Option, nat_le, slice_set}
-use Rattle.lines.specs.declared.list.NumberList.{NumberList}
+use Rattle.std.specs.Prelude.{ℕ, cond, ◌&&◌, List, [], ◌∷◌, length, ℤ, pos, Some, None, Option, nat_le}
+use Rattle.arrays.specs.declared.list.FixedList.{FixedList}
+use Rattle.arrays.specs.Lists.{list_from as fixed_list}
 use Rattle.lines.specs.declared.number.Radix.{Radix}
 use Rattle.lines.specs.Numbers.{number_in}
 
--- the list that holds these numbers, with zeros behind them
-abbrev pub list_from : List ℤ → NumberList
-list_from xs = record { items = xs ++ replicate (7 - length xs) (pos 0); len = length xs }
-
--- the numbers that a list holds, seven at most
-abbrev pub list_items : NumberList → List ℤ
-list_items l = take (min l.len 7) l.items
-
--- one number more at the end
-abbrev pub with_last : NumberList → ℤ → NumberList
-with_last l x = record { items = slice_set l.items l.len x; len = l.len + 1 }
+-- the list of up to seven that holds these numbers, with zeros behind them
+abbrev pub list_from : List ℤ → FixedList ℤ 7
+list_from xs = fixed_list 7 (pos 0) xs
 
 -- the number that the first of some words writes
 abbrev pub first_number : Radix → List (List ℕ) → Option ℤ

@@ -1,11 +1,10 @@
 // The six forms of a line.
 ghost use Rattle.std.specs.Prelude.{◌≡◌, drop};
 ghost use Rattle.std.specs.Option.{option_map};
-ghost use Rattle.std.specs.Str.{bytes_eq};
-ghost use Rattle.lines.specs.Words.{pending, others as after_first};
-ghost use Rattle.lines.specs.Forms.{none_left, line_byte, line_bytes, well_spaced, code_form, rll_form, taps_form, measure_form, anchor_form, form_of, line_form};
+ghost use Rattle.lines.specs.Lexers.{pending};
+ghost use Rattle.lines.specs.Forms.{none_left, line_byte, line_bytes, bare_ends, well_spaced, code_form, rll_form, taps_form, measure_form, anchor_in, anchor_form, form_of, line_form};
 
-use crate::lexer::{Lexer, Word};
+use crate::lexer::Lexer;
 use crate::list::{NumberList, all_numbers, next_number};
 use crate::number::{Radix, number_of};
 
@@ -56,13 +55,6 @@ fn at_end(words: &mut Lexer) -> bool
     words.next_word().is_none()
 }
 
-// Whether two words are the same bytes.
-fn is(word: &[u8], name: &[u8]) -> bool
-    ensures { result ≡ bytes_eq word.now name.now }
-{
-    word == name
-}
-
 fn code_line(words: &mut Lexer) -> Option<Line>
     ensures { result ≡ code_form (pending words.old) }
 {
@@ -81,11 +73,7 @@ fn rll_line(words: &mut Lexer) -> Option<Line>
 {
     let d = next_number(words, Radix::Decimal)?;
     let k = next_number(words, Radix::Decimal)?;
-    if at_end(words) {
-        Some(Line::Rll(RllLine { d, k }))
-    } else {
-        None
-    }
+    at_end(words).then_some(Line::Rll(RllLine { d, k }))
 }
 
 fn taps_line(words: &mut Lexer) -> Option<Line>
@@ -99,18 +87,21 @@ fn taps_line(words: &mut Lexer) -> Option<Line>
 fn measure_line(words: &mut Lexer) -> Option<Line>
     ensures { result ≡ measure_form (pending words.old) }
 {
-    let name = words.next_word()?.bytes();
-    let measure = if is(name, b"square") {
-        MeasureLine::Square
-    } else if is(name, b"bits") {
-        MeasureLine::Bits(next_number(words, Radix::Decimal)?)
-    } else {
-        return None;
+    let measure = match words.next_word()?.bytes() {
+        b"square" => MeasureLine::Square,
+        b"bits" => MeasureLine::Bits(next_number(words, Radix::Decimal)?),
+        _ => return None,
     };
-    if at_end(words) {
-        Some(Line::Measure(measure))
-    } else {
-        None
+    at_end(words).then_some(Line::Measure(measure))
+}
+
+// The state that a word of a start or an end names, or any.
+fn anchor(word: &[u8]) -> Option<Option<i32>>
+    ensures { result ≡ anchor_in word.now }
+{
+    match word {
+        b"any" => Some(None),
+        number => Some(Some(number_of(Radix::Decimal, number)?)),
     }
 }
 
@@ -118,86 +109,56 @@ fn measure_line(words: &mut Lexer) -> Option<Line>
 fn anchor_state(words: &mut Lexer) -> Option<Option<i32>>
     ensures { result ≡ anchor_form (pending words.old) }
 {
-    let state = match words.next_word()? {
-        Word::Figure(bytes, _) => Some(number_of(Radix::Decimal, bytes)?),
-        Word::Name(name, _) => if is(name, b"any") {
-            None
-        } else {
-            return None;
-        },
-    };
-    if at_end(words) { Some(state) } else { None }
+    let state = anchor(words.next_word()?.bytes())?;
+    at_end(words).then_some(state)
 }
 
 // The form that the first word names.
 fn form(words: &mut Lexer) -> Option<Line>
     ensures { result ≡ form_of (pending words.old) }
 {
-    let name = words.next_word()?.bytes();
-    if is(name, b"code") {
-        code_line(words)
-    } else if is(name, b"rll") {
-        rll_line(words)
-    } else if is(name, b"taps") {
-        taps_line(words)
-    } else if is(name, b"measure") {
-        measure_line(words)
-    } else if is(name, b"start") {
-        Some(Line::Start(anchor_state(words)?))
-    } else if is(name, b"end") {
-        Some(Line::End(anchor_state(words)?))
-    } else {
-        None
+    match words.next_word()?.bytes() {
+        b"code" => code_line(words),
+        b"rll" => rll_line(words),
+        b"taps" => taps_line(words),
+        b"measure" => measure_line(words),
+        b"start" => Some(Line::Start(anchor_state(words)?)),
+        b"end" => Some(Line::End(anchor_state(words)?)),
+        _ => None,
     }
 }
 
 fn is_line_byte(b: u8) -> bool
     ensures { result ≡ line_byte b }
 {
-    match b {
-        b'a'..=b'z' | b'0'..=b'9' | b'-' | b' ' => true,
-        _ => false,
-    }
+    matches!(b, b'a'..=b'z' | b'0'..=b'9' | b'-' | b' ')
 }
 
 fn has_line_bytes(line: &[u8]) -> bool
     ensures { result ≡ line_bytes line.now }
 {
-    for b in line {
-        if !is_line_byte(*b) {
-            return false;
-        }
-    }
-    true
+    line.iter().all(|b| is_line_byte(*b))
+}
+
+// Whether a line has bytes, and no space at either end.
+fn has_bare_ends(line: &[u8]) -> bool
+    ensures { result ≡ bare_ends line.now }
+{
+    !matches!(line, [] | [b' ', ..] | [.., b' '])
 }
 
 // Whether a line is words parted by spaces, with no space at either end.
 fn is_well_spaced(line: &[u8]) -> bool
     ensures { result ≡ well_spaced line.now }
 {
-    if line.is_empty() {
-        return false;
-    }
-    let first = line[0];
-    let last = line[line.len() - 1];
-    if first == b' ' || last == b' ' {
-        return false;
-    }
-    has_line_bytes(line)
-}
-
-// Whether the rest of a text, from a place on, is such a line.
-fn is_line_from(text: &[u8], from: usize) -> bool
-    ensures { result ≡ well_spaced (drop from text.now) }
-{
-    from < text.len() && is_well_spaced(&text[from..])
+    has_bare_ends(line) && has_line_bytes(line)
 }
 
 // The line that begins at a place of the text and goes to its end, or nothing where it has none of the forms.
 pub fn line_from(text: &[u8], from: usize) -> Option<Line>
     ensures { result ≡ line_form (drop from text.now) }
 {
-    if !is_line_from(text, from) {
+    if !is_well_spaced(text.get(from..)?) {
         return None;
     }
     form(&mut Lexer::new(text, from))

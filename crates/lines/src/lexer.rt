@@ -1,8 +1,8 @@
 // Cuts a line into words. A word is a part of the text, handed out with its place there.
-ghost use Rattle.std.specs.Prelude.{◌≡◌, ◌+◌, drop};
+ghost use Rattle.std.specs.Prelude.{◌≡◌, ◌+◌, ◌-◌, ◌^◌, ◌<◌, ◌≤◌, length, drop};
 ghost use Rattle.std.specs.Option.{option_map};
-ghost use Rattle.std.specs.List.{prefix_len};
-ghost use Rattle.lines.specs.Words.{words, is_space, other, all_digits, figure, spelled, word_bytes, next_word, pending, first, others};
+ghost use Rattle.std.specs.List.{prefix_len, take_while};
+ghost use Rattle.lines.specs.Words.{words, is_space, other, all_digits, figure, first, others};
 
 // A word of the text with its place: a figure is an optional minus and one or more digits, any other word a name.
 #[derive(Clone, Copy)]
@@ -12,30 +12,62 @@ pub enum Word<'a> {
 }
 
 impl<'a> Word<'a> {
+    ghost use Rattle.lines.specs.Lexers.{spelled, spelled_at, word_bytes};
+
     pub fn bytes(self) -> &'a [u8]
         ensures { result.now ≡ word_bytes self.entry }
     {
         match self {
-            Word::Name(bytes, _) => bytes,
-            Word::Figure(bytes, _) => bytes,
+            Word::Name(bytes, _) | Word::Figure(bytes, _) => bytes,
+        }
+    }
+
+    // A word of the kind that its bytes are.
+    fn at(bytes: &'a [u8], place: usize) -> Word<'a>
+        ensures word { spelled result ≡ spelled_at bytes.now place }
+        ensures bytes { word_bytes result ≡ bytes.now }
+    {
+        if is_figure(bytes) {
+            Word::Figure(bytes, place)
+        } else {
+            Word::Name(bytes, place)
         }
     }
 }
 
-// Hands out the words of a text, from a place in it on, one after the other.
+// Hands out the words of a text, from a place in it on, one after the other: the bytes that are left, and the place of
+// the first of them. Its clauses name both, since a view as the words alone would lose their places.
 #[derive(Clone, Copy)]
 pub struct Lexer<'a> {
-    text: &'a [u8],
+    rest: &'a [u8],
     at: usize,
+    ghost within: { at + length rest.now < 2 ^ 64 },
 }
 
 impl<'a> Lexer<'a> {
+    ghost use Rattle.lines.specs.Lexers.{spelled, word_bytes, next_word, pending};
+
     pub fn new(text: &'a [u8], from: usize) -> Lexer<'a>
-        ensures text { result.text.now ≡ text.now }
+        ensures rest { result.rest.now ≡ drop from text.now }
         ensures at { result.at ≡ from }
         ensures words { pending result ≡ words (drop from text.now) }
     {
-        Lexer { text, at: from }
+        Lexer {
+            rest: text.get(from..).unwrap_or_default(),
+            at: from,
+        }
+    }
+
+    // The lexer after some bytes more.
+    fn ahead(self, bytes: usize) -> Lexer<'a>
+        requires { bytes ≤ length self.rest.now }
+        ensures rest { result.rest.now ≡ drop bytes self.entry.rest.now }
+        ensures at { result.at ≡ self.entry.at + bytes }
+    {
+        Lexer {
+            rest: &self.rest[bytes..],
+            at: self.at + bytes,
+        }
     }
 
     // The next word, or nothing where only spaces are left.
@@ -43,44 +75,39 @@ impl<'a> Lexer<'a> {
         ensures word { option_map spelled result ≡ next_word self.old }
         ensures bytes { option_map word_bytes result ≡ first (pending self.old) }
         ensures others { pending self.new ≡ others (pending self.old) }
-        ensures text { self.new.text.now ≡ self.old.text.now }
+        ensures rest { self.new.rest.now ≡ drop (self.new.at - self.old.at) self.old.rest.now }
     {
-        let text = self.text;
-        let from = past_spaces(text, self.at);
-        let end = index_of(text, from, b' ');
-        self.at = end;
-        if from >= text.len() {
+        let start = self.ahead(leading_spaces(self.rest));
+        if start.rest.is_empty() {
             return None;
         }
-        let word = &text[from..end];
-        if is_figure(word) {
-            Some(Word::Figure(word, from))
-        } else {
-            Some(Word::Name(word, from))
-        }
+        let length = bytes_before(start.rest, b' ');
+        let (word, _) = start.rest.split_at(length);
+        *self = start.ahead(length);
+        Some(Word::at(word, start.at))
     }
 }
 
-// Where the spaces end that begin at a place.
-fn past_spaces(text: &[u8], from: usize) -> usize
-    ensures { result ≡ from + prefix_len is_space (drop from text.now) }
+// How many spaces a text begins with.
+fn leading_spaces(text: &[u8]) -> usize
+    ensures { result ≡ length (take_while is_space text.now) }
 {
-    let mut start = from;
-    while start < text.len() && text[start] == b' ' {
-        start += 1;
-    }
-    start
+    text.iter().take_while(|b| **b == b' ').count()
+}
+
+// How many bytes stand before another one, or all where it is not there.
+fn bytes_before(text: &[u8], byte: u8) -> usize
+    ensures { result ≡ length (take_while (other byte) text.now) }
+{
+    text.iter().take_while(|b| **b != byte).count()
 }
 
 // Where a byte next stands, from a place on, or the end of the text.
+#[tactic(auto, using(crate::proofs::Runs::run_length))]
 pub fn index_of(text: &[u8], from: usize, byte: u8) -> usize
     ensures { result ≡ from + prefix_len (other byte) (drop from text.now) }
 {
-    let mut at = from;
-    while at < text.len() && text[at] != byte {
-        at += 1;
-    }
-    at
+    from + bytes_before(text.get(from..).unwrap_or_default(), byte)
 }
 
 fn is_figure(word: &[u8]) -> bool
@@ -96,10 +123,5 @@ fn is_figure(word: &[u8]) -> bool
 fn is_digits(word: &[u8]) -> bool
     ensures { result ≡ all_digits word.now }
 {
-    for b in word {
-        if *b < b'0' || *b > b'9' {
-            return false;
-        }
-    }
-    true
+    word.iter().all(|b| b.is_ascii_digit())
 }

@@ -1,49 +1,16 @@
 // The numbers at the end of a line, up to seven of them, and how they are read.
-ghost use Rattle.std.specs.Prelude.{◌≡◌, [], if◌then◌else◌, nat_lt};
+ghost use Rattle.std.specs.Prelude.{◌≡◌};
 ghost use Rattle.std.specs.Option.{option_map};
-ghost use Rattle.lines.specs.Words.{pending, others as after_first};
-ghost use Rattle.lines.specs.Lists.{list_from, list_items, with_last, first_number, number_list};
+ghost use Rattle.lines.specs.Words.{others as after_first};
+ghost use Rattle.lines.specs.Lexers.{pending};
+ghost use Rattle.lines.specs.Lists.{list_from, first_number, number_list};
 
 use crate::lexer::{Lexer, Word};
 use crate::number::{Radix, number_of};
+use arrays::list::FixedList;
 
 // Up to seven numbers, with zeros behind them.
-#[derive(Clone, Copy)]
-pub struct NumberList {
-    items: [i32; 7],
-    len: usize,
-}
-
-impl NumberList {
-    pub fn new() -> NumberList
-        ensures { result ≡ list_from [] }
-    {
-        NumberList {
-            items: [0; 7],
-            len: 0,
-        }
-    }
-
-    // One number more at the end; false where seven are held, and the list is as it was.
-    pub fn push(&mut self, number: i32) -> bool
-        ensures room { result ≡ nat_lt self.old.len 7 }
-        ensures after { self.new ≡ (if result then with_last self.old number else self.old) }
-    {
-        if self.len >= 7 {
-            return false;
-        }
-        self.items[self.len] = number;
-        self.len += 1;
-        true
-    }
-
-    pub fn as_slice(&self) -> &[i32]
-        ensures { result.now ≡ list_items self.now }
-    {
-        let len = self.len.min(7);
-        &self.items[0..len]
-    }
-}
+pub type NumberList = FixedList<i32, 7>;
 
 // The number that the next word writes.
 pub(crate) fn next_number(words: &mut Lexer, radix: Radix) -> Option<i32>
@@ -60,14 +27,9 @@ pub(crate) fn next_number(words: &mut Lexer, radix: Radix) -> Option<i32>
 pub(crate) fn all_numbers(words: &mut Lexer, radix: Radix) -> Option<NumberList>
     ensures { result ≡ option_map list_from (number_list radix (pending words.old)) }
 {
-    let mut numbers = NumberList::new();
+    let mut numbers = FixedList::new(0);
     while let Some(word) = words.next_word() {
-        if !numbers.push(number_of(radix, word.bytes())?) {
-            return None;
-        }
+        numbers.push(number_of(radix, word.bytes())?).ok()?;
     }
-    if numbers.len == 0 {
-        return None;
-    }
-    Some(numbers)
+    (!numbers.as_slice().is_empty()).then_some(numbers)
 }

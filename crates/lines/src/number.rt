@@ -13,10 +13,8 @@ fn digit_of(base: u32, byte: u8) -> Option<u32>
     requires { base ≤ 10 }
     ensures { result ≡ (if is_digit base byte then Some (byte - 48) else None) }
 {
-    if byte < b'0' || u32::from(byte) >= 48 + base {
-        return None;
-    }
-    Some(u32::from(byte - b'0'))
+    let digit = u32::from(byte.checked_sub(b'0')?);
+    (digit < base).then_some(digit)
 }
 
 // 1 to 6 digits of a base.
@@ -28,6 +26,7 @@ fn numeral(base: u32, digits: &[u8]) -> Option<u32>
     if digits.is_empty() || digits.len() > 6 {
         return None;
     }
+    // A fold's closure could not name how far the value has grown, which keeps the sum in range.
     let mut value = 0;
     for b in digits {
         let digit = digit_of(base, *b)?;

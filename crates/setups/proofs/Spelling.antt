@@ -37,10 +37,10 @@ record Heard (xs : List Piece) (ls hs : List Read) : Type 0 where
   once : OnceAfter (heard ls) fs
   all : heard hs ≡ onto fs (heard ls)
 
-ok_same : {X Z : Type 0} {x y : X} → ◌≡◌ {A = Result X Z} (Ok x) (Ok y) → x ≡ y
+pub ok_same : {X Z : Type 0} {x y : X} → ◌≡◌ {A = Result X Z} (Ok x) (Ok y) → x ≡ y
 ok_same e = cc
 
-not_ok : {X Z : Type 0} {x : X} {z : Z} → ◌≡◌ {A = Result X Z} (Err z) (Ok x) → ⊥
+pub not_ok : {X Z : Type 0} {x : X} {z : Z} → ◌≡◌ {A = Result X Z} (Err z) (Ok x) → ⊥
 not_ok e = let z : ◌≡◌ {A = ℕ} 0 1 = cc in omega arith
 
 module _ (x : Piece) (xs : List Piece) (p : ℕ) (ls hs : List Read) (rest : (ms : List Read) → read_lines (p + length x.bytes + 1) ms xs ≡ Ok hs → Heard xs ms hs) where

@@ -11,7 +11,7 @@ use Rattle.lines.specs.Forms.{line_form}
 use Rattle.model.specs.declared.refusal.Refusal.{Refusal}
 use Rattle.model.specs.declared.refusal.Refusal.TheVariants.{LineForm, LineRepeated}
 use Rattle.model.specs.declared.refusal.Layer.TheVariants.{Lines}
-use Rattle.model.specs.Refusals.{refusal_number, layer_number, Refused}
+use Rattle.model.specs.Refusals.{Refused, refused_at}
 use Rattle.setups.specs.declared.held.Placed.{Placed}
 use Rattle.setups.specs.declared.held.HeldLines.{HeldLines}
 use Rattle.setups.specs.Texts.{Piece}
@@ -116,7 +116,7 @@ with_line h (Start l) p = record { code = h.code; rll = h.rll; taps = h.taps; me
 with_line h (End l) p = record { code = h.code; rll = h.rll; taps = h.taps; measure = h.measure; start = h.start; end = Some (record { line = l; place = p }) }
 
 abbrev pub line_fault : Refusal → ℕ → Refused
-line_fault r p = record { number = refusal_number r; layer = layer_number Lines; place = p }
+line_fault r p = refused_at r Lines p
 
 -- one line more: refused where it has no form, then where its first word was seen before
 abbrev pub line_read : ℕ → List Read → Option Line → Result (List Read) Refused

@@ -1,5 +1,6 @@
 // The lines that are held while a description is read.
-ghost use Rattle.std.specs.Prelude.{◌≡◌, [], length, take, drop, if◌then◌else◌, None, nat_lt};
+ghost use Rattle.std.specs.Prelude.{◌≡◌, [], length, take, drop, if◌then◌else◌, Some, None, nat_lt, is_some, OnOk, IfErr};
+ghost use Rattle.std.specs.Result.{is_err};
 ghost use Rattle.lines.specs.Forms.{line_form};
 ghost use Rattle.model.specs.Refusals.{outcome, refused};
 ghost use Rattle.setups.specs.Texts.{lines_of};
@@ -19,7 +20,7 @@ pub struct Placed<T> {
 }
 
 // At most one line of each form.
-#[derive(Clone, Copy)]
+#[derive(Clone, Copy, Default)]
 pub struct HeldLines {
     pub code: Option<Placed<CodeLine>>,
     pub rll: Option<Placed<RllLine>>,
@@ -29,50 +30,42 @@ pub struct HeldLines {
     pub end: Option<Placed<Option<i32>>>,
 }
 
+// Holds a line of one form, or refuses it where one is held.
+fn hold<T: Copy>(held: &mut Option<Placed<T>>, line: T, place: usize) -> Result<(), Fault>
+    ensures repeated { is_err result ≡ is_some held.old }
+    ensures fault { IfErr result (λ f. refused f ≡ line_fault Refusal.LineRepeated place) }
+    ensures held { OnOk result (held.new ≡ Some (record { line = line; place = place })) }
+{
+    if held.is_some() {
+        return Err(Refusal::LineRepeated.at(Layer::Lines, place));
+    }
+    *held = Some(Placed { line, place });
+    Ok(())
+}
+
 impl HeldLines {
     pub fn new() -> HeldLines
         ensures { result ≡ gathered [] }
     {
-        HeldLines {
-            code: None,
-            rll: None,
-            taps: None,
-            measure: None,
-            start: None,
-            end: None,
-        }
+        HeldLines::default()
     }
 
-    // Whether a line with this line's first word is held.
-    fn holds(&self, line: &Line) -> bool
-        ensures { result ≡ is_held self.now line.now }
+    // Holds a line in the place of its form, or refuses it where a line with its first word is held.
+    fn hold(&mut self, line: Line, place: usize) -> Result<(), Fault>
+        ensures repeated { is_err result ≡ is_held self.old line }
+        ensures fault { IfErr result (λ f. refused f ≡ line_fault Refusal.LineRepeated place) }
+        ensures held { OnOk result (self.new ≡ with_line self.old line place) }
     {
         match line {
-            Line::Code(_) => self.code.is_some(),
-            Line::Rll(_) => self.rll.is_some(),
-            Line::Taps(_) => self.taps.is_some(),
-            Line::Measure(_) => self.measure.is_some(),
-            Line::Start(_) => self.start.is_some(),
-            Line::End(_) => self.end.is_some(),
+            Line::Code(line) => hold(&mut self.code, line, place),
+            Line::Rll(line) => hold(&mut self.rll, line, place),
+            Line::Taps(line) => hold(&mut self.taps, line, place),
+            Line::Measure(line) => hold(&mut self.measure, line, place),
+            Line::Start(line) => hold(&mut self.start, line, place),
+            Line::End(line) => hold(&mut self.end, line, place),
         }
     }
 
-    // Holds a line in the place of its form.
-    fn put(&mut self, line: Line, place: usize)
-        ensures { self.new ≡ with_line self.old line place }
-    {
-        match line {
-            Line::Code(line) => self.code = Some(Placed { line, place }),
-            Line::Rll(line) => self.rll = Some(Placed { line, place }),
-            Line::Taps(line) => self.taps = Some(Placed { line, place }),
-            Line::Measure(line) => self.measure = Some(Placed { line, place }),
-            Line::Start(line) => self.start = Some(Placed { line, place }),
-            Line::End(line) => self.end = Some(Placed { line, place }),
-        }
-    }
-}
-
-impl HeldLines {
     // The kind of trellis that the lines are an accepted set for.
     fn trellis(&self) -> Option<TrellisSetup>
         ensures { result ≡ held_trellis self.now }
@@ -108,17 +101,7 @@ fn line_at(text: &[u8], place: usize, end: usize) -> Option<Line>
     if end >= text.len() {
         return None;
     }
-    line_from(&text[0..end], place)
-}
-
-fn fault(refusal: Refusal, place: usize) -> Fault
-    ensures { refused result ≡ line_fault refusal place }
-{
-    Fault {
-        refusal,
-        layer: Layer::Lines,
-        place,
-    }
+    line_from(&text[..end], place)
 }
 
 // The lines of a text, from a place in it on, or the first fault.
@@ -126,16 +109,12 @@ pub fn read_lines(text: &[u8], from: usize) -> Result<HeldLines, Fault>
     ensures { outcome result ≡ gathered_from (read_lines from [] (lines_of (drop from text.now))) }
 {
     let mut held = HeldLines::new();
+    // The place is kept by the loop, since a fault names it: an iterator of lines would only hold the same place.
     let mut at = from;
     while at < text.len() {
         let end = index_of(text, at, b'\n');
-        let Some(line) = line_at(text, at, end) else {
-            return Err(fault(Refusal::LineForm, at));
-        };
-        if held.holds(&line) {
-            return Err(fault(Refusal::LineRepeated, at));
-        }
-        held.put(line, at);
+        let line = line_at(text, at, end).ok_or(Refusal::LineForm.at(Layer::Lines, at))?;
+        held.hold(line, at)?;
         at = end + 1;
     }
     Ok(held)

@@ -1,5 +1,5 @@
 use Rattle.std.proofs.Common.{length}
-use Rattle.lines.specs.Words.{pending}
+use Rattle.lines.specs.Lexers.{pending}
 use Rattle.lines.proofs.NumberLists.{Reads}
 use Rattle.lines.proofs.list.all_numbers.Given as goal
 

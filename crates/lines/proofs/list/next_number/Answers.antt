@@ -1,6 +1,6 @@
 use Rattle.std.proofs.Common.{Some, sym, ap, ◌∙◌}
 use Rattle.lines.specs.declared.lexer.Word.{Word}
-use Rattle.lines.specs.Words.{word_bytes}
+use Rattle.lines.specs.Lexers.{word_bytes}
 use Rattle.lines.proofs.Names.{name_first, first_number_at}
 use Rattle.lines.proofs.list.next_number.Goals as goal
 

@@ -1,34 +1,41 @@
-use Rattle.std.proofs.Common.{true, false, sym, refl, ap, ◌∙◌}
-use Rattle.lines.specs.Words.{first, others}
-use Rattle.lines.proofs.Lexing.{ends_within, word_cut, none_left, none_after, no_word, word_is}
+use Rattle.std.proofs.Common.{◌≡◌, ℕ, ◌+◌, ◌-◌, List, take, drop, length, Some, sym, ap, ◌∙◌, arith}
+use Rattle.std.proofs.lemmas.Bool.{eqb-true, eqb-false}
+use Rattle.std.proofs.lemmas.List.{drop-drop}
+use Rattle.lines.specs.Words.{is_space, other, words, first, others}
+use Rattle.lines.specs.Lexers.{Spelled, spelled_at}
+use Rattle.lines.proofs.Runs.{run_length}
+use Rattle.lines.proofs.Lexing.{none_left, no_word, word_cut, word_is}
 use Rattle.lines.proofs.lexer.Lexer.next_word.Goals as goal
 
-pub returns-then-from-text : goal.returns-then-from-text
-returns-then-from-text c =
-    let t = c.args.self.now.text.now in
+pub returns-then-is_empty : goal.returns-then-is_empty
+returns-then-is_empty c =
+    let r = c.args.self.now.rest.now in
     let at = c.args.self.now.at in
-    let f = c.past_spaces-from.ensures in
-    let e = c.index_of-end.ensures in
-    let none = none_left t at _ _ f e c.if-from-text.true in
-    record { word = no_word t at _ _ f e c.if-from-text.true; bytes = sym (ap first none); others = none_after t at _ _ f e c.if-from-text.true ∙ sym (ap others none); text = refl }
+    let run = c.leading_spaces.ensures ∙ run_length is_space r in
+    let empty = eqb-true (length c.ahead-start.result.rest.now) 0 (sym c.if-is_empty.ensures) in
+    let none = none_left r _ _ run c.ahead-start.ensures.rest empty in
+    let here : at - at ≡ 0 = omega arith in
+    record { word = no_word r _ _ run c.ahead-start.ensures.rest empty at; bytes = sym (ap first none); others = none ∙ sym (ap others none); rest = rw here }
 
-pub slice_bounds-word-end : goal.slice_bounds-word-end
-slice_bounds-word-end c = ends_within c.args.self.now.text.now c.args.self.now.at _ _ c.past_spaces-from.ensures c.index_of-end.ensures c.if-from-text.false
-
-pub returns-then-is_figure : goal.returns-then-is_figure
-returns-then-is_figure c =
-    let t = c.args.self.now.text.now in
+pub returns : goal.returns
+returns c =
+    let r = c.args.self.now.rest.now in
     let at = c.args.self.now.at in
-    let f = c.past_spaces-from.ensures in
-    let e = c.index_of-end.ensures in
-    let cut = word_cut t at _ _ f e c.if-from-text.false in
-    record { word = word_is t at _ _ f e true c.if-from-text.false c.if-is_figure.ensures; bytes = sym (ap first cut); others = sym (ap others cut); text = refl }
-
-pub returns-else-is_figure : goal.returns-else-is_figure
-returns-else-is_figure c =
-    let t = c.args.self.now.text.now in
-    let at = c.args.self.now.at in
-    let f = c.past_spaces-from.ensures in
-    let e = c.index_of-end.ensures in
-    let cut = word_cut t at _ _ f e c.if-from-text.false in
-    record { word = word_is t at _ _ f e false c.if-from-text.false c.if-is_figure.ensures; bytes = sym (ap first cut); others = sym (ap others cut); text = refl }
+    let a = c.ahead-start.result.rest.now in
+    let n = c.leading_spaces.result in
+    let m = c.bytes_before-length.result in
+    let run = c.leading_spaces.ensures ∙ run_length is_space r in
+    let some = eqb-false (length a) 0 (sym c.if-is_empty.ensures) in
+    let stop = c.bytes_before-length.ensures ∙ run_length (other 32) a in
+    let cut = word_cut r a n run c.ahead-start.ensures.rest some m stop in
+    let moved : n + m ≡ c.ahead.result.at - at = omega (arith, c.ahead-start.ensures.at, c.ahead.ensures.at) in
+    record {
+      word =
+          ap (λ (s : Spelled). Some s) c.at.ensures.word
+          ∙ ap (λ (w : List ℕ). Some (spelled_at w c.ahead-start.result.at)) c.split_at.ensures.front
+          ∙ ap (λ (p : ℕ). Some (spelled_at (take m a) p)) c.ahead-start.ensures.at
+          ∙ word_is r a n run c.ahead-start.ensures.rest some m stop at;
+      bytes = ap (λ (w : List ℕ). Some w) (c.at.ensures.bytes ∙ c.split_at.ensures.front) ∙ sym (ap first cut);
+      others = ap words c.ahead.ensures.rest ∙ sym (ap others cut);
+      rest = c.ahead.ensures.rest ∙ ap (λ (l : List ℕ). drop m l) c.ahead-start.ensures.rest ∙ drop-drop m n r ∙ ap (λ (k : ℕ). drop k r) moved;
+    }
