@@ -5,7 +5,7 @@ use recordings::outcome::Outcome;
 // What a recording gives, as a plain struct of C. The number is 0 where the recording is accepted; then layer and place
 // are 0 too. Else number, layer and place are those of the fault, and all the rest is 0.
 #[repr(C)]
-#[derive(Clone, Copy, Debug, Default, PartialEq, Eq)]
+#[derive(Clone, Copy, Default)]
 pub struct JudaybokAnswer {
     pub number: u32,
     pub layer: u32,
