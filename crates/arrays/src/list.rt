@@ -1,5 +1,5 @@
 // A list of up to N items that lies in an array, so that it takes no memory of its own.
-ghost use Rattle.std.specs.Prelude.{◌≡◌, ◌<◌, ◌++◌, [], ◌∷◌, take, OnOk, OnErr, ◌↔◌, IsOk, if◌then◌else◌, nat_lt};
+ghost use Rattle.std.specs.Prelude.{◌≡◌, ◌<◌, ◌++◌, [], ◌∷◌, length, take, OnOk, OnErr, ◌↔◌, IsTrue, IsOk, if◌then◌else◌, nat_lt};
 ghost use Rattle.arrays.specs.Lists.{list_from, list_items, with_last};
 
 // The list is full.
@@ -29,6 +29,7 @@ impl<T: Copy, const N: usize> FixedList<T, N> {
         ensures room { IsOk result ↔ (self.old.len < N) }
         ensures after { self.new ≡ (if nat_lt self.old.len N then with_last self.old item else self.old) }
         ensures items { OnOk result (list_items self.new ≡ list_items self.old ++ item ∷ []) }
+        ensures some { IsOk result ↔ (length (list_items self.old) < N) }
         ensures full { OnErr result (self.new ≡ self.old) }
     {
         if self.len >= N {
@@ -53,6 +54,19 @@ impl<T: Copy, const N: usize> FixedList<T, N> {
         ensures { result.now ≡ list_items self.now }
     {
         &self.items[..self.len.min(N)]
+    }
+
+    // How many items there are.
+    pub fn len(&self) -> usize
+        ensures { result ≡ length (list_items self.now) }
+    {
+        self.len.min(N)
+    }
+
+    pub fn is_empty(&self) -> bool
+        ensures { IsTrue result ↔ (list_items self.now ≡ []) }
+    {
+        self.len() == 0
     }
 
     // Keeps the first n items, or all where there are fewer.

@@ -105,10 +105,6 @@ module _ (recording : List ℕ) (place : ℕ) (first : Bool) (c : Content) where
   pub accepted_stands : block_at recording place first ≡ Ok c → Stands recording place first c
   accepted_stands e = stands_by _ refl (accepted_first _ e)
 
--- the block at the front of the bytes from a place on is the block at that place
-pub front_at : (recording : List ℕ) (place : ℕ) (first : Bool) (bytes : List ℕ) (r : Result Content ℕ) → r ≡ first_block bytes first → bytes ≡ drop place recording → faulted_at place r ≡ block_at recording place first
-front_at recording place first bytes r e from = ap (faulted_at place) (e ∙ ap (λ (xs : List ℕ). first_block xs first) from)
-
 -- a reader that answers the same accepts the same
 pub accepts : (recording : List ℕ) (place : ℕ) (first : Bool) (r : Result Content Refused) → r ≡ block_at recording place first → (c : Content) → (r ≡ Ok c → Stands recording place first c) × (Stands recording place first c → r ≡ Ok c)
 accepts recording place first r is c = (λ e. accepted_stands recording place first c (sym is ∙ e), λ s. is ∙ stands_accepted recording place first c s)

@@ -1,6 +1,8 @@
 -- The samples of a payload, by their number and their places.
 use Rattle.std.proofs.Common.{◌≡◌, ℕ, zero, suc, ◌+◌, ◌*◌, ◌/◌, ◌%◌, ◌<◌, List, [], ◌∷◌, ◌++◌, length, get_or, take, drop, ℤ, pos, Some, refl, ap, ◌∙◌, arith}
 use Rattle.std.specs.List.{slice_get}
+use Rattle.std.specs.Simd.{first_chunks}
+use Rattle.std.proofs.lemmas.List.{get_or-take, get_or-drop}
 use Rattle.std.proofs.lemmas.Option.{slice_get-get_or}
 use Rattle.std.proofs.lemmas.Int.{ints}
 use Rattle.model.specs.Ranges.{InRange}
@@ -24,6 +26,16 @@ get_d_samples (low ∷ high ∷ bytes) (suc i) d h =
 
 pub nth_samples : (bytes : List ℕ) (i : ℕ) → i < length (samples_of bytes) → slice_get (samples_of bytes) i ≡ Some (sample_of (get_or bytes (2 * i) 0) (get_or bytes (2 * i + 1) 0))
 nth_samples bytes i h = slice_get-get_or (samples_of bytes) i (pos 0) h ∙ ap (λ (z : ℤ). Some z) (get_d_samples bytes i (pos 0) h)
+
+-- the bytes of the pair at an index
+pub pair_at : (k : ℕ) (bytes : List ℕ) (i j : ℕ) (d : List ℕ) → i < k → j < 2 → get_or (get_or (first_chunks 2 k bytes) i d) j 0 ≡ get_or bytes (2 * i + j) 0
+pair_at zero bytes i j d h l = absurd (omega arith)
+pair_at (suc k) bytes zero j d h l =
+    let same : j ≡ 2 * 0 + j = omega arith in
+    get_or-take 2 bytes j 0 l ∙ ap (λ (n : ℕ). get_or bytes n 0) same
+pair_at (suc k) bytes (suc i) j d h l =
+    let more : 2 + (2 * i + j) ≡ 2 * suc i + j = omega arith in
+    pair_at k (drop 2 bytes) i j d (omega arith) l ∙ get_or-drop 2 bytes (2 * i + j) 0 ∙ ap (λ (n : ℕ). get_or bytes n 0) more
 
 -- the samples of bytes one after the other
 pub samples_append : (xs ys : List ℕ) → length xs % 2 ≡ 0 → samples_of (xs ++ ys) ≡ samples_of xs ++ samples_of ys

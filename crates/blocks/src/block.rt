@@ -3,7 +3,7 @@ ghost use Rattle.std.specs.Prelude.{◌≡◌, ◌^◌, ◌<◌, ◌≤◌, leng
 ghost use Rattle.std.specs.Option.{option_map as mapped-some};
 ghost use Rattle.std.specs.Result.{result_map_both};
 ghost use Rattle.model.specs.Refusals.{outcome, refused, refusal_number};
-ghost use Rattle.blocks.specs.Blocks.{Content, parts, frame_of, content, content_of, payload_of, next_place, first_block, block_fault, contents, block_at};
+ghost use Rattle.blocks.specs.Blocks.{Content, parts, frame_of, content, content_of, payload_of, next_place, first_block, contents, block_at};
 ghost use Rattle.blocks.specs.Standing.{Stands};
 
 use crate::kind::Kind;
@@ -13,7 +13,7 @@ use model::refusal::{Fault, Layer, Refusal};
 pub const HEADER_SIZE: usize = 4;
 
 // What a block carries.
-#[derive(Clone, Copy)]
+#[derive(Clone, Copy, Debug, PartialEq, Eq)]
 pub enum Block<'a> {
     Description(&'a [u8]),
     Samples(&'a [u8]),
@@ -25,8 +25,7 @@ impl<'a> Block<'a> {
         ensures { result.now ≡ payload_of (content self.entry) }
     {
         match self {
-            Block::Description(payload) => payload,
-            Block::Samples(payload) => payload,
+            Block::Description(payload) | Block::Samples(payload) => payload,
             Block::End => &[],
         }
     }
@@ -48,10 +47,7 @@ fn frame_of(bytes: &[u8]) -> Option<Frame<'_>>
         return None;
     };
     let len = usize::from(u16::from_le_bytes([*l0, *l1]));
-    if payload_and_rest.len() < len {
-        return None;
-    }
-    let (payload, rest) = payload_and_rest.split_at(len);
+    let (payload, rest) = payload_and_rest.split_at_checked(len)?;
     Some(Frame {
         kind: u16::from_le_bytes([*k0, *k1]),
         payload,
@@ -74,12 +70,8 @@ fn block_of(kind: Kind, payload: &[u8]) -> Block<'_>
 fn first_block(bytes: &[u8], is_first: bool) -> Result<Block<'_>, Refusal>
     ensures { result_map_both content refusal_number result ≡ first_block bytes.now is_first }
 {
-    let Some(frame) = frame_of(bytes) else {
-        return Err(Refusal::BlockCut);
-    };
-    let Some(kind) = Kind::from_number(frame.kind) else {
-        return Err(Refusal::BlockKind);
-    };
+    let frame = frame_of(bytes).ok_or(Refusal::BlockCut)?;
+    let kind = Kind::try_from(frame.kind)?;
     if !kind.may_stand(is_first) {
         return Err(Refusal::BlockOrder);
     }
@@ -99,15 +91,12 @@ fn bytes_from(bytes: &[u8], place: usize) -> &[u8]
     &bytes[place.min(bytes.len())..]
 }
 
-// What is wrong with a block is found where the block begins.
-fn fault(refusal: Refusal, place: usize) -> Fault
-    ensures { refused result ≡ block_fault (refusal_number refusal) place }
+// The block that begins at a place. What is wrong with it is found where it begins.
+fn block_from(recording: &[u8], place: usize, is_first: bool) -> Result<Block<'_>, Fault>
+    ensures { result_map_both content refused result ≡ block_at recording.now place is_first }
 {
-    Fault {
-        refusal,
-        layer: Layer::Blocks,
-        place,
-    }
+    let bytes = bytes_from(recording, place);
+    first_block(bytes, is_first).map_err(|refusal| refusal.at(Layer::Blocks, place))
 }
 
 // Where the block that begins at a place ends.
@@ -125,8 +114,6 @@ pub fn block_at(recording: &[u8], place: usize, is_first: bool) -> Result<(Block
     ensures within { IfOk result (λ b. b.1 ≤ length recording.now) }
     ensures accepts { (c : Content) → (contents (outcome result) ≡ Ok c → Stands recording.now place is_first c) × (Stands recording.now place is_first c → contents (outcome result) ≡ Ok c) }
 {
-    match first_block(bytes_from(recording, place), is_first) {
-        Ok(block) => Ok((block, end_of(block, place))),
-        Err(refusal) => Err(fault(refusal, place)),
-    }
+    let block = block_from(recording, place, is_first)?;
+    Ok((block, end_of(block, place)))
 }

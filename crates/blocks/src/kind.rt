@@ -1,36 +1,40 @@
 // The kinds of blocks, and what each asks of a block.
-ghost use Rattle.std.specs.Prelude.{◌≡◌};
+ghost use Rattle.std.specs.Prelude.{◌≡◌, ok_or};
+ghost use Rattle.model.specs.declared.refusal.Refusal.TheVariants.{BlockKind};
 ghost use Rattle.blocks.specs.Kinds.{kind_of, may_stand, may_carry, may_precede};
 
-#[derive(Clone, Copy)]
+use model::refusal::Refusal;
+
+// Each kind with its number.
+#[derive(Clone, Copy, Debug, PartialEq, Eq)]
 pub enum Kind {
-    Description,
-    Samples,
-    End,
+    Description = 1,
+    Samples = 2,
+    End = 3,
+}
+
+// The kind that a number stands for, if it stands for one.
+impl TryFrom<u16> for Kind {
+    type Error = Refusal;
+
+    ghost try_from_gives = { λ number result. result ≡ ok_or (kind_of number) BlockKind };
+
+    fn try_from(number: u16) -> Result<Kind, Refusal> {
+        match number {
+            1 => Ok(Kind::Description),
+            2 => Ok(Kind::Samples),
+            3 => Ok(Kind::End),
+            _ => Err(Refusal::BlockKind),
+        }
+    }
 }
 
 impl Kind {
-    // The kind that a number stands for, if it stands for one.
-    pub fn from_number(number: u16) -> Option<Kind>
-        ensures { result ≡ kind_of number }
-    {
-        match number {
-            1 => Some(Kind::Description),
-            2 => Some(Kind::Samples),
-            3 => Some(Kind::End),
-            _ => None,
-        }
-    }
-
     // A description stands first, and nowhere else.
     pub(crate) fn may_stand(self, is_first: bool) -> bool
         ensures { result ≡ may_stand self is_first }
     {
-        match self {
-            Kind::Description => is_first,
-            Kind::Samples => !is_first,
-            Kind::End => !is_first,
-        }
+        (self == Kind::Description) == is_first
     }
 
     // A sample has two bytes, and an end block carries nothing.
@@ -39,7 +43,7 @@ impl Kind {
     {
         match self {
             Kind::Description => true,
-            Kind::Samples => payload.len() % 2 == 0,
+            Kind::Samples => payload.len().is_multiple_of(2),
             Kind::End => payload.is_empty(),
         }
     }
@@ -48,10 +52,6 @@ impl Kind {
     pub(crate) fn may_precede(self, rest: &[u8]) -> bool
         ensures { result ≡ may_precede self rest.now }
     {
-        match self {
-            Kind::Description => true,
-            Kind::Samples => true,
-            Kind::End => rest.is_empty(),
-        }
+        self != Kind::End || rest.is_empty()
     }
 }

@@ -1,7 +1,7 @@
 // Reads a recording from standard input, and prints what is detected in it or why it is refused.
 #![tactic(auto)]
 
-use anyhow::anyhow;
+use anyhow::ensure;
 use outcomes::text::detect_text;
 use std::io::{Read, Write};
 
@@ -11,11 +11,9 @@ const ENOUGH: u64 = 65537;
 fn main(rt: HostRuntime) -> anyhow::Result<()> {
     let mut recording = Vec::new(rt.alloc());
     rt.stdin().take(ENOUGH).read_to_end(&mut recording)?;
-    let (text, accepted) = detect_text(rt.alloc(), recording.as_slice())?;
-    rt.stdout().write_all(text.as_slice())?;
-    if accepted {
-        Ok(())
-    } else {
-        Err(anyhow!("the recording is refused"))
-    }
+    let detected = detect_text(rt.alloc(), &recording)?;
+    let (Ok(text) | Err(text)) = &detected;
+    rt.stdout().write_all(text)?;
+    ensure!(detected.is_ok(), "the recording is refused");
+    Ok(())
 }

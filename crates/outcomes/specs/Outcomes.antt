@@ -1,5 +1,5 @@
 -- The text of what a recording gives. Each definition says what stands behind a text that it is given.
-use Rattle.std.specs.Prelude.{ℕ, Bool, true, false, List, [], ◌∷◌, ◌++◌, take, replicate, Some, None, Ok, Err, codes, decimal, Option, Result}
+use Rattle.std.specs.Prelude.{ℕ, List, [], ◌∷◌, ◌++◌, take, replicate, Some, None, Ok, Err, codes, decimal, Option, Result}
 use Rattle.model.specs.Refusals.{Refused}
 use Rattle.paths.specs.Paths.{Path}
 use Rattle.listings.specs.Listings.{with_line, refusal_text}
@@ -9,7 +9,7 @@ use Rattle.recordings.specs.Recordings.{outcome_in, buffer_after}
 -- the second, or `none`
 abbrev pub with_second : List ℕ → Option ℕ → List ℕ
 with_second text None = text ++ codes "second none\n"
-with_second text (Some c) = with_line text (codes "second ") c
+with_second text (Some c) = with_line text (codes "second ") (decimal c)
 
 -- each letter in figures, with nothing between
 abbrev pub with_digits : List ℕ → List ℕ → List ℕ
@@ -27,9 +27,9 @@ outcome_text o letters =
     with_letters
     (with_line (with_line
     (with_second
-    (with_line (with_line (with_line (with_line [] (codes "samples ") o.samples) (codes "paths ") o.paths) (codes "cost ") o.report.cost) (codes "ties ") o.report.ties)
+    (with_line (with_line (with_line (with_line [] (codes "samples ") (decimal o.samples)) (codes "paths ") (decimal o.paths)) (codes "cost ") (decimal o.report.cost)) (codes "ties ") (decimal o.report.ties))
     o.report.second)
-    (codes "start ") o.report.first) (codes "end ") o.report.last)
+    (codes "start ") (decimal o.report.first)) (codes "end ") (decimal o.report.last))
     letters
 
 -- what is printed of a recording: the outcome, with as many letters as there are samples from the front of the buffer that it
@@ -40,8 +40,3 @@ answer_text (Err f) buffer = refusal_text f
 
 abbrev pub detected_text : Result (Outcome × Path) Refused → List ℕ
 detected_text r = answer_text (outcome_in r) (buffer_after r 0 (replicate 512 0))
-
--- whether it is accepted
-abbrev pub is_detected : Result (Outcome × Path) Refused → Bool
-is_detected (Ok o) = true
-is_detected (Err f) = false

@@ -1,7 +1,8 @@
 // The text of what a recording gives: its outcome, or its fault.
-ghost use Rattle.std.specs.Prelude.{◌≡◌, replicate, IfOk, OnOk};
+ghost use Rattle.std.specs.Prelude.{◌≡◌, replicate, is_ok, IfOk, OnOk};
+ghost use Rattle.listings.specs.Listings.{either};
 ghost use Rattle.recordings.specs.Recordings.{recording as recorded};
-ghost use Rattle.outcomes.specs.Outcomes.{with_second, with_digits, with_letters, outcome_text, detected_text, is_detected};
+ghost use Rattle.outcomes.specs.Outcomes.{with_second, with_digits, with_letters, outcome_text, detected_text};
 
 use listings::text::{fault_text, put, put_line, put_number};
 use recordings::outcome::Outcome;
@@ -12,33 +13,33 @@ use std::alloc::{AllocError, Global};
 const MOST_LETTERS: usize = 512;
 
 // The second, or that there is none.
-fn put_second(out: &mut Vec<u8>, heap: Global, second: Option<u64>) -> Result<(), AllocError>
+fn put_second(out: &mut Vec<u8>, second: Option<u64>) -> Result<(), AllocError>
     ensures { OnOk result (out.new.items ≡ with_second out.old.items second) }
 {
     match second {
         None => put(out, b"second none\n"),
-        Some(cost) => put_line(out, heap, b"second ", cost as usize),
+        Some(cost) => put_line(out, b"second ", cost),
     }
 }
 
 // Each letter in figures, with nothing between.
-fn put_digits(out: &mut Vec<u8>, heap: Global, letters: &[u8]) -> Result<(), AllocError>
+fn put_digits(out: &mut Vec<u8>, letters: &[u8]) -> Result<(), AllocError>
     ensures { OnOk result (out.new.items ≡ with_digits out.old.items letters.now) }
 {
     for letter in letters {
-        put_number(out, heap, usize::from(*letter))?;
+        put_number(out, *letter)?;
     }
     Ok(())
 }
 
 // The line of the letters, which ends after its name where there are none.
-fn put_letters(out: &mut Vec<u8>, heap: Global, letters: &[u8]) -> Result<(), AllocError>
+fn put_letters(out: &mut Vec<u8>, letters: &[u8]) -> Result<(), AllocError>
     ensures { OnOk result (out.new.items ≡ with_letters out.old.items letters.now) }
 {
     put(out, b"letters")?;
     if !letters.is_empty() {
         put(out, b" ")?;
-        put_digits(out, heap, letters)?;
+        put_digits(out, letters)?;
     }
     put(out, b"\n")
 }
@@ -49,29 +50,28 @@ pub fn outcome_lines(heap: Global, outcome: &Outcome, letters: &[u8]) -> Result<
 {
     let mut out = Vec::new(heap);
     let report = outcome.report;
-    put_line(&mut out, heap, b"samples ", outcome.samples)?;
-    put_line(&mut out, heap, b"paths ", outcome.paths as usize)?;
-    put_line(&mut out, heap, b"cost ", report.cost as usize)?;
-    put_line(&mut out, heap, b"ties ", report.ties as usize)?;
-    put_second(&mut out, heap, report.second)?;
-    put_line(&mut out, heap, b"start ", report.first)?;
-    put_line(&mut out, heap, b"end ", report.last)?;
-    put_letters(&mut out, heap, letters)?;
+    put_line(&mut out, b"samples ", outcome.samples)?;
+    put_line(&mut out, b"paths ", outcome.paths)?;
+    put_line(&mut out, b"cost ", report.cost)?;
+    put_line(&mut out, b"ties ", report.ties)?;
+    put_second(&mut out, report.second)?;
+    put_line(&mut out, b"start ", report.first)?;
+    put_line(&mut out, b"end ", report.last)?;
+    put_letters(&mut out, letters)?;
     Ok(out)
 }
 
-// The text of what a recording gives, and whether it is accepted.
-pub fn detect_text(heap: Global, recording: &[u8]) -> Result<(Vec<u8>, bool), AllocError>
-    ensures text { IfOk result (λ v. v.0.items ≡ detected_text (recorded recording.now 0 512)) }
-    ensures accepted { IfOk result (λ v. v.1 ≡ is_detected (recorded recording.now 0 512)) }
+// The text of what a recording gives, in `Ok` where it is accepted and in `Err` where it is refused; or want of memory.
+pub fn detect_text(heap: Global, recording: &[u8]) -> Result<Result<Vec<u8>, Vec<u8>>, AllocError>
+    ensures text { IfOk result (λ r. (either r).items ≡ detected_text (recorded recording.now 0 512)) }
+    ensures accepted { IfOk result (λ r. is_ok r ≡ is_ok (recorded recording.now 0 512)) }
 {
     let mut letters = [0; MOST_LETTERS];
     match read_recording(recording, &mut letters, 0) {
         Ok(outcome) => {
             let held = outcome.samples.min(MOST_LETTERS);
-            let text = outcome_lines(heap, &outcome, &letters[..held])?;
-            Ok((text, true))
+            Ok(Ok(outcome_lines(heap, &outcome, &letters[..held])?))
         },
-        Err(fault) => Ok((fault_text(heap, &fault)?, false)),
+        Err(fault) => Ok(Err(fault_text(heap, &fault)?)),
     }
 }

@@ -1,13 +1,14 @@
 -- Taking the samples of a block, one after another. Assumes nothing.
-use Rattle.std.proofs.Common.{◌≡◌, ℕ, zero, suc, ◌+◌, ◌<◌, cond, List, [], ◌∷◌, drop, ℤ, Some, None, Ok, Err, sym, refl, ap, ◌∙◌, add-one, arith, lit<, eq-eqb}
+use Rattle.std.proofs.Common.{◌≡◌, ℕ, ◌<◌, cond, List, ◌∷◌, ℤ, Ok, Err, Result, sym, refl, ap, ◌∙◌, arith, lit<}
 use Rattle.std.proofs.lemmas.Bool.{ne_eqb}
-use Rattle.std.specs.List.{slice_get}
+use Rattle.std.specs.Result.{result_ok}
 use Rattle.model.specs.declared.refusal.Refusal.{Refusal}
 use Rattle.model.specs.declared.refusal.Refusal.TheVariants.{TapsLetters, TapsCount, TapValue, ConstraintLength, GeneratorCount, GeneratorValue, InversionWord, RunLength, CascadeStates, BitsWidth, SamplesHeld, NotAState, RecordFull, RewindBeyond, NoPath, BufferShort, RowShort, LineForm, LineRepeated, LineSet, BlockCut, BlockKind, BlockOrder, PayloadLength, BytesAfterEnd, RecordingLarge}
-use Rattle.model.specs.Refusals.{refusal_number}
+use Rattle.model.specs.Refusals.{refusal_number, Refused, answer}
 use Rattle.paths.proofs.Listing.{never}
 use Rattle.records.specs.Held.{Held, take_check, taken}
 use Rattle.recordings.specs.Recordings.{call_fault, take_all}
+use Rattle.recordings.specs.Steps.{at_block}
 
 -- no refusal has the number 0
 pub refusal_some : (e : Refusal) → 0 < refusal_number e
@@ -38,25 +39,11 @@ refusal_some PayloadLength = lit< tt
 refusal_some BytesAfterEnd = lit< tt
 refusal_some RecordingLarge = lit< tt
 
-at_nth : {X : Type 0} (xs : List X) (i : ℕ) (x : X) → slice_get xs i ≡ Some x → drop i xs ≡ x ∷ drop (i + 1) xs
-at_nth [] i x e = absurd (never e refl)
-at_nth (y ∷ ys) zero x e = let s : y ≡ x = cc in ap (λ z. z ∷ ys) s
-at_nth (y ∷ ys) (suc i) x e = at_nth ys i x e ∙ ap (λ zs. x ∷ zs) (rw (add-one, add-one))
-
-past_nth : {X : Type 0} (xs : List X) (i : ℕ) → slice_get xs i ≡ None → drop i xs ≡ []
-past_nth [] zero e = refl
-past_nth [] (suc i) e = refl
-past_nth (y ∷ ys) zero e = absurd (never refl e)
-past_nth (y ∷ ys) (suc i) e = past_nth ys i e
-
-module _ (place : ℕ) (h : Held) (xs : List ℤ) (i : ℕ) where
-  pub taken_more : (x : ℤ) → slice_get xs i ≡ Some x → 0 ≡ take_check h → take_all place h (drop i xs) ≡ take_all place (taken h x) (drop (i + 1) xs)
-  taken_more x e ok = ap (take_all place h) (at_nth xs i x e) ∙ ap (λ b. cond b (take_all place (taken h x) (drop (i + 1) xs)) (Err (call_fault (take_check h) place))) (eq-eqb (take_check h) 0 (sym ok))
-
-  pub taken_no : (x : ℤ) (e : Refusal) → slice_get xs i ≡ Some x → refusal_number e ≡ take_check h → take_all place h (drop i xs) ≡ Err (call_fault (refusal_number e) place)
-  taken_no x e at is =
-      ap (take_all place h) (at_nth xs i x at) ∙ ap (λ b. cond b (take_all place (taken h x) (drop (i + 1) xs)) (Err (call_fault (take_check h) place))) (ne_eqb (take_check h) 0 (λ z. omega (arith, refusal_some e)))
-      ∙ ap (λ n. Err (call_fault n place)) (sym is)
-
-  pub taken_all : slice_get xs i ≡ None → take_all place h (drop i xs) ≡ Ok h
-  taken_all e = ap (take_all place h) (past_nth xs i e)
+-- a sample that is refused is the fault, whatever comes after it
+pub taken_no : (place : ℕ) (h : Held) (x : ℤ) (xs : List ℤ) (r : Result (Unit {0}) Refusal) (f : Refused) → ◌≡◌ {A = Result (Unit {0}) Refused} (Err f) (at_block r place) → answer r ≡ take_check h →
+    ◌≡◌ {A = Result Held Refused} (Err f) (take_all place h (x ∷ xs))
+taken_no place h x xs (Ok u) f e c = absurd (never {x = u} refl (sym (ap result_ok e)))
+taken_no place h x xs (Err w) f e c =
+    let same : f ≡ call_fault (refusal_number w) place = cc in
+    let no = ne_eqb (take_check h) 0 (λ z. omega (arith, refusal_some w)) in
+    ap Err (same ∙ ap (λ n. call_fault n place) c) ∙ sym (ap (λ b. cond b (take_all place (taken h x) xs) (Err (call_fault (take_check h) place))) no)

@@ -1,11 +1,17 @@
 -- What the steps of the reader answer, beside what a record holds after them.
 use Rattle.std.specs.Prelude.{◌≡◌, ℕ, ◌≤◌, List, length, Ok, Err, Result}
-use Rattle.model.specs.Refusals.{Refused}
+use Rattle.model.specs.declared.refusal.Refusal.{Refusal}
+use Rattle.model.specs.Refusals.{refusal_number, Refused}
 use Rattle.model.specs.Trellises.{Lawful}
 use Rattle.setups.specs.declared.setup.Setup.{Setup}
 use Rattle.descriptions.specs.Channels.{channel_of}
 use Rattle.records.specs.Held.{Held}
-use Rattle.recordings.specs.Recordings.{most_bytes, set_up}
+use Rattle.recordings.specs.Recordings.{most_bytes, call_fault, set_up}
+
+-- what a call of the record answers while the block at a place is handled
+abbrev pub at_block : {A : Type 0} → Result A Refusal → ℕ → Result A Refused
+at_block (Ok x) place = Ok x
+at_block (Err e) place = Err (call_fault (refusal_number e) place)
 
 -- what is held, unless there is a fault
 abbrev pub held_then : Result (Unit {0}) Refused → Held → Result Held Refused

@@ -4,7 +4,6 @@ ghost use Rattle.model.specs.Refusals.{outcome};
 ghost use Rattle.model.specs.Trellises.{Lawful};
 ghost use Rattle.measures.specs.Erasings.{erasing};
 ghost use Rattle.descriptions.specs.Channels.{channel_meaning, channel_of, measure_meaning, measure_of};
-ghost use Rattle.records.specs.Tables.{held_of};
 ghost use Rattle.recordings.specs.Recordings.{recording as recorded, outcome_in, buffer_after, detected_from, held_at_first};
 ghost use Rattle.recordings.specs.Recorded.{Accepts};
 ghost use Rattle.recordings.specs.Steps.{Lawfully};
@@ -25,7 +24,7 @@ pub const MOST_BYTES: usize = 65536;
 fn record_for(setup: &Setup) -> Listening<Channel, Erasing<ChannelMeasure>>
     ensures trellis { channel_meaning result.trellis ≡ channel_of setup.now.trellis }
     ensures measure { erasing (measure_meaning result.measure.below) ≡ measure_of setup.now.measure }
-    ensures held { held_of result.table ≡ held_at_first setup.now }
+    ensures held { result.held ≡ held_at_first setup.now }
 {
     let mut record = Listening::new(Channel::new(&setup.trellis), measure_from(&setup.measure));
     let _ = record.anchor(setup.start, setup.end);
@@ -65,11 +64,7 @@ fn read(recording: &[u8], letters: &mut [u8], at: usize) -> Result<Outcome, Faul
     ensures lawful { Lawfully recording.now }
 {
     if recording.len() > MOST_BYTES {
-        return Err(Fault {
-            refusal: Refusal::RecordingLarge,
-            layer: Layer::Blocks,
-            place: 0,
-        });
+        return Err(Refusal::RecordingLarge.at(Layer::Blocks, 0));
     }
     let (setup, from) = read_setup(recording)?;
     detect_from(recording, letters, at, &setup, from)

@@ -1,19 +1,19 @@
 // The steps of reading a recording: its description, its sample blocks, and what its end block asks for.
 ghost use Rattle.std.specs.Prelude.{◌≡◌, suc, ◌≤◌, cond, length, IfOk};
-ghost use Rattle.model.specs.Refusals.{refusal_number, refused, outcome};
+ghost use Rattle.model.specs.Refusals.{outcome};
 ghost use Rattle.algebras.specs.Counts.{counting};
 ghost use Rattle.paths.specs.Sums.{path_sum};
 ghost use Rattle.records.specs.Held.{Held};
-ghost use Rattle.records.specs.Tables.{held_of};
+ghost use Rattle.records.specs.Seen.{with_held};
 ghost use Rattle.blocks.specs.Samples.{samples_of};
-ghost use Rattle.recordings.specs.Recordings.{call_fault, set_up, take_all, read_blocks, detected, outcome_in, buffer_after};
-ghost use Rattle.recordings.specs.Steps.{held_then, ended};
+ghost use Rattle.recordings.specs.Recordings.{set_up, take_all, read_blocks, detected, outcome_in, buffer_after};
+ghost use Rattle.recordings.specs.Steps.{at_block, held_then, ended};
 
 use crate::outcome::Outcome;
 use algebras::algebra::Algebra;
 use algebras::counting::Counting;
 use blocks::block::{Block, HEADER_SIZE, block_at};
-use blocks::sample::sample_at;
+use blocks::sample::Samples;
 use descriptions::reader::read_description;
 use model::measure::Measure;
 use model::refusal::{Fault, Layer, Refusal};
@@ -22,15 +22,11 @@ use records::listening::Listening;
 use records::settled::Settled;
 use setups::setup::Setup;
 
-// A call of the record was refused while the block at a place was handled.
-fn call_fault(refusal: Refusal, place: usize) -> Fault
-    ensures { refused result ≡ call_fault (refusal_number refusal) place }
+// A call of the record that is refused while the block at a place is handled is a fault at that place.
+fn at_block<A: Drop>(answered: Result<A, Refusal>, place: usize) -> Result<A, Fault>
+    ensures { outcome result ≡ at_block answered place }
 {
-    Fault {
-        refusal,
-        layer: Layer::Calls,
-        place,
-    }
+    answered.map_err(|refusal| refusal.at(Layer::Calls, place))
 }
 
 // The setup of the description in the first block, and where the next block begins.
@@ -49,16 +45,11 @@ fn take_samples<T: Trellis, M: Measure>(
     payload: &[u8],
     place: usize,
 ) -> Result<(), Fault>
-    ensures held { held_then (outcome result) (held_of «record».new.table) ≡ take_all place (held_of «record».old.table) (samples_of payload.now) }
-    ensures trellis { «record».new.trellis ≡ «record».old.trellis }
-    ensures measure { «record».new.measure ≡ «record».old.measure }
+    ensures held { held_then (outcome result) «record».new.held ≡ take_all place «record».old.held (samples_of payload.now) }
+    ensures others { «record».new ≡ with_held «record».old «record».new.held }
 {
-    let mut i = 0;
-    while let Some(sample) = sample_at(payload, i) {
-        if let Err(refusal) = record.take(sample) {
-            return Err(call_fault(refusal, place));
-        }
-        i += 1;
+    for sample in Samples::new(payload) {
+        at_block(record.take(sample), place)?;
     }
     Ok(())
 }
@@ -69,9 +60,8 @@ pub(crate) fn read_blocks<T: Trellis, M: Measure>(
     from: usize,
     record: &mut Listening<T, M>,
 ) -> Result<usize, Fault>
-    ensures held { ended (outcome result) (held_of «record».new.table) ≡ read_blocks (suc (length recording.now)) recording.now from (held_of «record».old.table) }
-    ensures trellis { «record».new.trellis ≡ «record».old.trellis }
-    ensures measure { «record».new.measure ≡ «record».old.measure }
+    ensures held { ended (outcome result) «record».new.held ≡ read_blocks (suc (length recording.now)) recording.now from «record».old.held }
+    ensures others { «record».new ≡ with_held «record».old «record».new.held }
 {
     let mut place = from;
     while let (Block::Samples(payload), next) = block_at(recording, place, false)? {
@@ -83,7 +73,7 @@ pub(crate) fn read_blocks<T: Trellis, M: Measure>(
 
 // How many admissible paths there are, modulo 2 ^ 64.
 fn count_paths<T: Trellis, M: Measure>(settled: &Settled<T, M>) -> u64
-    ensures { result ≡ (path_sum (T.Trellis.meaning settled.now.work.trellis) (M.Measure.costs settled.now.work.measure) counting (held_of settled.now.work.table).start (held_of settled.now.work.table).end (held_of settled.now.work.table).samples).value }
+    ensures { result ≡ (path_sum (T.Trellis.meaning settled.now.seen.trellis) (M.Measure.costs settled.now.seen.measure) counting settled.now.seen.held.start settled.now.seen.held.end settled.now.seen.held.samples).value }
 {
     let mut first = [Counting.zero(); MOST_STATES];
     let mut second = [Counting.zero(); MOST_STATES];
@@ -98,15 +88,12 @@ pub(crate) fn detect_at<T: Trellis + Drop, M: Measure + Drop>(
     letters: &mut [u8],
     at: usize,
 ) -> Result<Outcome, Fault>
-    ensures value { outcome result ≡ outcome_in (detected (T.Trellis.meaning «record».trellis) (M.Measure.costs «record».measure) at (length letters.old) (held_of «record».table) place) }
-    ensures letters { letters.new ≡ buffer_after (detected (T.Trellis.meaning «record».trellis) (M.Measure.costs «record».measure) at (length letters.old) (held_of «record».table) place) at letters.old }
+    ensures value { outcome result ≡ outcome_in (detected (T.Trellis.meaning «record».trellis) (M.Measure.costs «record».measure) at (length letters.old) «record».held place) }
+    ensures letters { letters.new ≡ buffer_after (detected (T.Trellis.meaning «record».trellis) (M.Measure.costs «record».measure) at (length letters.old) «record».held place) at letters.old }
 {
     let samples = record.held();
     let settled = record.settle();
-    let report = match settled.report(letters, at) {
-        Ok(report) => report,
-        Err(refusal) => return Err(call_fault(refusal, place)),
-    };
+    let report = at_block(settled.report(letters, at), place)?;
     Ok(Outcome {
         samples,
         paths: count_paths(&settled),

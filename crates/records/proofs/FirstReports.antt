@@ -14,6 +14,7 @@ use Rattle.survivors.specs.declared.standing.Standing.{Standing}
 use Rattle.survivors.proofs.Firsts.{ends_at}
 use Rattle.records.specs.declared.report.Report.{Report}
 use Rattle.records.specs.Held.{Held}
+use Rattle.records.specs.Seen.{Chosen}
 use Rattle.records.specs.Reports.{has_room, path_check, if_reported, written, with_letters, report_from, report_of, reported_path, AnswersReport}
 
 -- ---- the first path
@@ -57,7 +58,7 @@ put_letters place n old new ls is len = let m : place + n - place ≡ n = omega 
 pub part_length : (place n : ℕ) (old : List ℕ) → has_room n place (length old) ≡ true → length (take (place + n - place) (drop place old)) ≡ n
 part_length place n old fits = let le : place + n ≤ length old = leb-true (place + n) (length old) fits in simp (length-take, length-drop) (omega arith)
 
-module _ (d : Diagram) (lawful : Lawful d) (cost : ℤ → ℤ → ℕ) (h : Held) (place : ℕ) (old : List ℕ) where
+module _ (d : Diagram) (cost : ℤ → ℤ → ℕ) (h : Held) (place : ℕ) (old : List ℕ) where
   abbrev room : Bool
   room = has_room (length h.samples) place (length old)
 
@@ -68,12 +69,18 @@ module _ (d : Diagram) (lawful : Lawful d) (cost : ℤ → ℤ → ℕ) (h : Hel
     pub buffer : new ≡ written (reported_path d cost h) room place old
     pub law : AnswersReport d cost h place r old new
 
-  pub shown_none : HasNoPath d h.start h.end (length h.samples) → (e : Refusal) → refusal_number e ≡ refusal_number NoPath → Shown (Err e) old
+-- the same of what a record shows
+pub along : {T M : Type 0} (meaning : T → Diagram) (costs : M → ℤ → ℤ → ℕ) (place : ℕ) (old new : List ℕ) (r : Result Report Refusal) {v w : Chosen T M} → v ≡ w →
+    Shown (meaning v.seen.trellis) (costs v.seen.measure) v.seen.held place old r new → Shown (meaning w.seen.trellis) (costs w.seen.measure) w.seen.held place old r new
+along meaning costs place old new r e s = subst (λ v. Shown (meaning v.seen.trellis) (costs v.seen.measure) v.seen.held place old r new) e s
+
+module _ (d : Diagram) (lawful : Lawful d) (cost : ℤ → ℤ → ℕ) (h : Held) (place : ℕ) (old : List ℕ) where
+  pub shown_none : HasNoPath d h.start h.end (length h.samples) → (e : Refusal) → refusal_number e ≡ refusal_number NoPath → Shown d cost h place old (Err e) old
   shown_none n e is =
       let none : reported_path d cost h ≡ None = none_is d lawful cost h.start h.end h.samples n in
       record { value = rw none; checked = rw none is; buffer = rw none; law = record { no_path = λ _. is; only_no_path = λ _. n; no_room = λ p a _. absurd (n p a); accepted = λ p a _. absurd (n p a); reports = tt; unchanged = refl } }
 
-  pub shown_short : (p : Path) → First d cost h.start h.end h.samples p → room ≡ false → Shown (Err BufferShort) old
+  pub shown_short : (p : Path) → First d cost h.start h.end h.samples p → room d cost h place old ≡ false → Shown d cost h place old (Err BufferShort) old
   shown_short p f short =
       let e : reported_path d cost h ≡ Some p = first_is d lawful cost h.start h.end h.samples p f in
       record {
@@ -83,9 +90,9 @@ module _ (d : Diagram) (lawful : Lawful d) (cost : ℤ → ℤ → ℕ) (h : Hel
         law = record { no_path = λ n. absurd (n p f.path); only_no_path = λ z. absurd (omega arith); no_room = λ _ _ _. refl; accepted = λ _ _ fits. absurd (clash (sym short ∙ fits)); reports = tt; unchanged = refl };
       }
 
-  pub shown_path : (p : Path) → First d cost h.start h.end h.samples p → room ≡ true → (e : Standing) → Admissible d h.start (Some e.last) (length h.samples) p → (a : ℕ) → a ≡ p.first →
+  pub shown_path : (p : Path) → First d cost h.start h.end h.samples p → room d cost h place old ≡ true → (e : Standing) → Admissible d h.start (Some e.last) (length h.samples) p → (a : ℕ) → a ≡ p.first →
       path_cost d cost h.samples p ≡ e.cost → e.ties ≡ ties d cost h.start h.end h.samples % 2 ^ 64 → e.second ≡ second d cost h.start h.end h.samples p →
-      (r : Report) → r ≡ report_from e a → (new : List ℕ) → new ≡ with_letters place old p → Shown (Ok r) new
+      (r : Report) → r ≡ report_from e a → (new : List ℕ) → new ≡ with_letters place old p → Shown d cost h place old (Ok r) new
   shown_path p f fits e to a first costs many least r r-is new is =
       let found : reported_path d cost h ≡ Some p = first_is d lawful cost h.start h.end h.samples p f in
       let ends : last_state d p ≡ Some e.last = last_is d h.start (length h.samples) e.last p to in

@@ -1,4 +1,3 @@
 pub mod Keeping
 pub mod FirstReports
-pub mod SettlesLemmas
 pub mod Runs

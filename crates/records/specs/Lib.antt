@@ -1,7 +1,7 @@
 pub mod Held
+pub mod Seen
 pub mod Tables
 pub mod Sound
-pub mod Settles
 pub mod Reports
 pub mod Runs
 pub mod Records

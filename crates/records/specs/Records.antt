@@ -3,30 +3,27 @@ use Rattle.std.specs.Prelude.{◌≡◌, ℕ, Bool, true, false, cond, ℤ, Some
 use Rattle.model.specs.declared.refusal.Refusal.{Refusal}
 use Rattle.model.specs.Refusals.{answer}
 use Rattle.model.specs.Trellises.{Diagram}
-use Rattle.model.specs.declared.trellis.Trellis as Tr
-use Rattle.model.specs.declared.measure.Measure as Me
 use Rattle.records.specs.declared.call.Call.{Call}
 use Rattle.records.specs.declared.record.Record.{Record}
 use Rattle.records.specs.declared.record.Record.TheVariants.{Listening, Settled}
 use Rattle.records.specs.Held.{Held}
 use Rattle.records.specs.Runs.{has, turned, held_by, call_check}
-use Rattle.records.specs.Tables.{held_of}
 
-abbrev pub is_settled : {T M : Type 0} {g : Tr.Ghosts T} {h : Me.Ghosts M} → Record T M g h → Bool
+abbrev pub is_settled : {T M : Type 0} → Record T M → Bool
 is_settled (Listening l) = false
 is_settled (Settled s) = true
 
-abbrev pub held_in : {T M : Type 0} {g : Tr.Ghosts T} {h : Me.Ghosts M} → Record T M g h → Held
-held_in (Listening l) = held_of l.table
-held_in (Settled s) = held_of s.work.table
+abbrev pub held_in : {T M : Type 0} → Record T M → Held
+held_in (Listening l) = l.held
+held_in (Settled s) = s.seen.held
 
-abbrev pub trellis_of : {T M : Type 0} {g : Tr.Ghosts T} {h : Me.Ghosts M} → Record T M g h → T
+abbrev pub trellis_of : {T M : Type 0} → Record T M → T
 trellis_of (Listening l) = l.trellis
-trellis_of (Settled s) = s.work.trellis
+trellis_of (Settled s) = s.seen.trellis
 
-abbrev pub measure_of : {T M : Type 0} {g : Tr.Ghosts T} {h : Me.Ghosts M} → Record T M g h → M
+abbrev pub measure_of : {T M : Type 0} → Record T M → M
 measure_of (Listening l) = l.measure
-measure_of (Settled s) = s.work.measure
+measure_of (Settled s) = s.seen.measure
 
 -- what a call answers, as a number: 0 or the refusal's; nothing where the record has no such call
 abbrev pub answered : Option (Result (Unit {0}) Refusal) → Option ℕ
@@ -34,7 +31,7 @@ answered None = None
 answered (Some r) = Some (answer r)
 
 -- a call was made on a record, or nothing was done where its state has no such call: what it answers, and the record after it
-pub record Made {T M : Type 0} {g : Tr.Ghosts T} {h : Me.Ghosts M} (meaning : T → Diagram) (costs : M → ℤ → ℤ → ℕ) (old : Record T M g h) (call : Call) (new : Record T M g h) (r : Option (Result (Unit {0}) Refusal)) : Type 0 where
+pub record Made {T M : Type 0} (meaning : T → Diagram) (costs : M → ℤ → ℤ → ℕ) (old : Record T M) (call : Call) (new : Record T M) (r : Option (Result (Unit {0}) Refusal)) : Type 0 where
   pub answer_is : answered r ≡ cond (has (is_settled old) call) (Some (call_check (meaning (trellis_of old)) (costs (measure_of old)) (held_in old) call)) None
   pub settled : is_settled new ≡ cond (has (is_settled old) call) (turned (is_settled old) call) (is_settled old)
   pub held : held_in new ≡ cond (has (is_settled old) call) (held_by (meaning (trellis_of old)) (held_in old) call) (held_in old)

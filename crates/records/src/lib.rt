@@ -13,4 +13,3 @@ pub mod settled;
 pub mod settling;
 mod table;
 pub mod weighing;
-mod work;

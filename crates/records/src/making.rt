@@ -1,7 +1,6 @@
 // One call of a list, made on a record in either state.
-ghost use Rattle.std.specs.Prelude.{◌≡◌, min};
+ghost use Rattle.std.specs.Prelude.{◌≡◌};
 ghost use Rattle.model.specs.Refusals.{answer};
-ghost use Rattle.records.specs.Tables.{held_of};
 ghost use Rattle.records.specs.Runs.{call_check};
 ghost use Rattle.records.specs.Records.{Made};
 
@@ -18,22 +17,16 @@ use model::trellis::{MOST_STATES, Trellis};
 // The most bytes of the buffer that a report in a list is given.
 pub const MOST_BUFFER: usize = 1024;
 
-fn smaller(n: usize, most: usize) -> usize
-    ensures { result ≡ min n most }
-{
-    if n < most { n } else { most }
-}
-
 // A report into a buffer of its own, of so many bytes.
 fn try_report<T: Trellis, M: Measure>(
     settled: &Settled<T, M>,
     length: usize,
     place: usize,
 ) -> Result<(), Refusal>
-    ensures { answer result ≡ call_check (T.Trellis.meaning settled.now.work.trellis) (M.Measure.costs settled.now.work.measure) (held_of settled.now.work.table) (Call.Report length place) }
+    ensures { answer result ≡ call_check (T.Trellis.meaning settled.now.seen.trellis) (M.Measure.costs settled.now.seen.measure) settled.now.seen.held (Call.Report length place) }
 {
     let mut buffer = [0; MOST_BUFFER];
-    settled.report(&mut buffer[..smaller(length, MOST_BUFFER)], place)?;
+    settled.report(&mut buffer[..length.min(MOST_BUFFER)], place)?;
     Ok(())
 }
 
@@ -44,14 +37,14 @@ fn try_weigh<T: Trellis, M: Measure>(
     first: usize,
     second: usize,
 ) -> Result<(), Refusal>
-    ensures { answer result ≡ call_check (T.Trellis.meaning settled.now.work.trellis) (M.Measure.costs settled.now.work.measure) (held_of settled.now.work.table) (Call.Weigh first second) }
+    ensures { answer result ≡ call_check (T.Trellis.meaning settled.now.seen.trellis) (M.Measure.costs settled.now.seen.measure) settled.now.seen.held (Call.Weigh first second) }
 {
     let mut one = [Counting.zero(); MOST_STATES];
     let mut two = [Counting.zero(); MOST_STATES];
     settled.weigh(
         &Counting,
-        &mut one[..smaller(first, MOST_STATES)],
-        &mut two[..smaller(second, MOST_STATES)],
+        &mut one[..first.min(MOST_STATES)],
+        &mut two[..second.min(MOST_STATES)],
     )?;
     Ok(())
 }
@@ -64,25 +57,16 @@ fn call_listening<T: Trellis, M: Measure>(
     ensures { Made T.Trellis.meaning M.Measure.costs (Record.Listening listening) call result.0 result.1 }
 {
     let mut listening = listening;
-    match call {
-        Call::Anchor(start, end) => {
-            let done = listening.anchor(start, end);
-            (Record::Listening(listening), Some(done))
+    let answer = match call {
+        Call::Anchor(start, end) => listening.anchor(start, end),
+        Call::Take(sample) => listening.take(sample),
+        Call::Rewind(n) => listening.rewind(n),
+        Call::Settle => return (Record::Settled(listening.settle()), Some(Ok(()))),
+        Call::Resume | Call::Report(_, _) | Call::Weigh(_, _) => {
+            return (Record::Listening(listening), None);
         }
-        Call::Take(sample) => {
-            let done = listening.take(sample);
-            (Record::Listening(listening), Some(done))
-        }
-        Call::Rewind(n) => {
-            let done = listening.rewind(n);
-            (Record::Listening(listening), Some(done))
-        }
-        Call::Settle => (Record::Settled(listening.settle()), Some(Ok(()))),
-        Call::Resume | Call::Report(_, _) | Call::Weigh(_, _) => (
-            Record::Listening(listening),
-            None,
-        ),
-    }
+    };
+    (Record::Listening(listening), Some(answer))
 }
 
 // A call on a settled record.
@@ -92,21 +76,13 @@ fn call_settled<T: Trellis, M: Measure>(
 ) -> (Record<T, M>, Option<Result<(), Refusal>>)
     ensures { Made T.Trellis.meaning M.Measure.costs (Record.Settled settled) call result.0 result.1 }
 {
-    match call {
-        Call::Resume => (Record::Listening(settled.resume()), Some(Ok(()))),
-        Call::Report(length, place) => {
-            let done = try_report(&settled, length, place);
-            (Record::Settled(settled), Some(done))
-        }
-        Call::Weigh(first, second) => {
-            let done = try_weigh(&settled, first, second);
-            (Record::Settled(settled), Some(done))
-        }
-        Call::Anchor(_, _) | Call::Take(_) | Call::Rewind(_) | Call::Settle => (
-            Record::Settled(settled),
-            None,
-        ),
-    }
+    let answer = match call {
+        Call::Resume => return (Record::Listening(settled.resume()), Some(Ok(()))),
+        Call::Report(length, place) => Some(try_report(&settled, length, place)),
+        Call::Weigh(first, second) => Some(try_weigh(&settled, first, second)),
+        Call::Anchor(_, _) | Call::Take(_) | Call::Rewind(_) | Call::Settle => None,
+    };
+    (Record::Settled(settled), answer)
 }
 
 // Makes a call on a record, and answers the record after it with what the call answered, nothing where the record's

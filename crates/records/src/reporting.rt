@@ -1,18 +1,15 @@
 // The report of a settled record: the first of the cheapest admissible paths on what it holds.
-ghost use Rattle.std.specs.Prelude.{◌≡◌, length, is_some, if◌then◌else◌};
+ghost use Rattle.std.specs.Prelude.{◌≡◌, length};
 ghost use Rattle.std.specs.Result.{result_ok};
-ghost use Rattle.model.specs.declared.refusal.Refusal.TheVariants.{NoPath};
-ghost use Rattle.model.specs.Refusals.{refusal_number, answer};
+ghost use Rattle.model.specs.Refusals.{answer};
 ghost use Rattle.records.specs.Held.{Held};
-ghost use Rattle.records.specs.Tables.{held_of};
-ghost use Rattle.records.specs.Reports.{has_room, path_check, if_reported, written, reported_path, report_of, report_from, AnswersReport};
+ghost use Rattle.records.specs.Reports.{has_room, path_check, if_reported, written, reported_path, report_of, AnswersReport};
 
 use crate::report::Report;
 use crate::settled::Settled;
 use model::measure::Measure;
 use model::refusal::Refusal;
 use model::trellis::Trellis;
-use survivors::standing::Standing;
 use survivors::traceback::trace;
 
 // Whether so many letters have room from a place on in a buffer of this length.
@@ -22,51 +19,32 @@ fn is_room(letters: usize, place: usize, buffer: usize) -> bool
     place <= buffer && letters <= buffer - place
 }
 
-// Where the reported path stands, or the refusal where there is none.
-fn path_standing(standing: Option<Standing>) -> Result<Standing, Refusal>
-    ensures value { result_ok result ≡ standing }
-    ensures checked { answer result ≡ (if is_some standing then 0 else refusal_number NoPath) }
-{
-    match standing {
-        Some(found) => Ok(found),
-        None => Err(Refusal::NoPath),
-    }
-}
-
-// The report of a path whose first state and standing are known.
-fn fill_report(standing: Standing, first: usize) -> Report
-    ensures { result ≡ report_from standing first }
-{
-    Report {
-        first,
-        last: standing.last,
-        cost: standing.cost,
-        ties: standing.ties,
-        second: standing.second,
-    }
-}
-
 impl<T: Trellis, M: Measure> Settled<T, M> {
     // Writes the letters of the reported path into the buffer, from the place on and nothing elsewhere, and answers the
     // rest of the report.
     pub fn report(&self, buffer: &mut [u8], place: usize) -> Result<Report, Refusal>
-        ensures value { result_ok result ≡ if_reported (reported_path (T.Trellis.meaning self.now.work.trellis) (M.Measure.costs self.now.work.measure) (held_of self.now.work.table)) (has_room (length (held_of self.now.work.table).samples) place (length buffer.old)) (report_of (T.Trellis.meaning self.now.work.trellis) (M.Measure.costs self.now.work.measure) (held_of self.now.work.table)) }
-        ensures checked { answer result ≡ path_check (reported_path (T.Trellis.meaning self.now.work.trellis) (M.Measure.costs self.now.work.measure) (held_of self.now.work.table)) (has_room (length (held_of self.now.work.table).samples) place (length buffer.old)) }
-        ensures buffer { buffer.new ≡ written (reported_path (T.Trellis.meaning self.now.work.trellis) (M.Measure.costs self.now.work.measure) (held_of self.now.work.table)) (has_room (length (held_of self.now.work.table).samples) place (length buffer.old)) place buffer.old }
-        ensures law { AnswersReport (T.Trellis.meaning self.now.work.trellis) (M.Measure.costs self.now.work.measure) (held_of self.now.work.table) place result buffer.old buffer.new }
+        ensures value { result_ok result ≡ if_reported (reported_path (T.Trellis.meaning self.now.seen.trellis) (M.Measure.costs self.now.seen.measure) self.now.seen.held) (has_room (length self.now.seen.held.samples) place (length buffer.old)) (report_of (T.Trellis.meaning self.now.seen.trellis) (M.Measure.costs self.now.seen.measure) self.now.seen.held) }
+        ensures checked { answer result ≡ path_check (reported_path (T.Trellis.meaning self.now.seen.trellis) (M.Measure.costs self.now.seen.measure) self.now.seen.held) (has_room (length self.now.seen.held.samples) place (length buffer.old)) }
+        ensures buffer { buffer.new ≡ written (reported_path (T.Trellis.meaning self.now.seen.trellis) (M.Measure.costs self.now.seen.measure) self.now.seen.held) (has_room (length self.now.seen.held.samples) place (length buffer.old)) place buffer.old }
+        ensures law { AnswersReport (T.Trellis.meaning self.now.seen.trellis) (M.Measure.costs self.now.seen.measure) self.now.seen.held place result buffer.old buffer.new }
     {
-        let work = &self.work;
-        let standing = path_standing(work.standing)?;
-        let held = work.table.held;
+        let standing = self.standing.ok_or(Refusal::NoPath)?;
+        let held = self.table.samples.len();
         if !is_room(held, place, buffer.len()) {
             return Err(Refusal::BufferShort);
         }
         let first = trace(
-            &work.table.choices,
+            &self.table.choices,
             standing.last,
             &mut buffer[place..place + held],
         )
         .unwrap();
-        Ok(fill_report(standing, first))
+        Ok(Report {
+            first,
+            last: standing.last,
+            cost: standing.cost,
+            ties: standing.ties,
+            second: standing.second,
+        })
     }
 }

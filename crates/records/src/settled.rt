@@ -1,39 +1,31 @@
 // A record whose choices are made.
 ghost use Rattle.std.specs.Prelude.{◌≡◌};
-ghost use Rattle.records.specs.Sound.{Sound};
-ghost use Rattle.records.specs.Settles.{Settles, settles_prop};
 
-use crate::work::Work;
+use crate::table::Table;
 use model::measure::Measure;
 use model::trellis::Trellis;
+use std::marker::Model;
+use survivors::standing::Standing;
 
 #[derive(Drop)]
 pub struct Settled<T: Trellis, M: Measure> {
-    pub(crate) work: Work<T, M>,
-    // the bytes and the standing are those of its own trellis, measure, start, end and samples
-    ghost settles: { Settles T.Trellis.meaning M.Measure.costs work } by { settles_prop T.Trellis.meaning M.Measure.costs work },
+    pub(crate) trellis: T,
+    pub(crate) measure: M,
+    pub(crate) table: Table,
+    // where the reported path ends and how it compares with the others, if there is one
+    pub(crate) standing: Option<Standing>,
 }
 
-impl<T: Trellis, M: Measure> Settled<T, M> {
-    pub(crate) fn keep(work: Work<T, M>) -> Settled<T, M>
-        requires { Sound T.Trellis.meaning M.Measure.costs work }
-        ensures { result.work ≡ work }
-    {
-        Settled { work }
-    }
+// The bytes and the standing are those of its own trellis, measure, start, end and samples.
+impl<T: Trellis, M: Measure> Model for Settled<T, M> {
+    ghost use Rattle.records.specs.Seen.{Chosen};
 
-    pub(crate) fn look(&self) -> &Work<T, M>
-        ensures value { result.now ≡ self.now.work }
-        ensures sound { Sound T.Trellis.meaning M.Measure.costs self.now.work }
-    {
-        &self.work
-    }
+    ghost Value = { Chosen T M };
 
-    pub(crate) fn open(self) -> Work<T, M>
-        ensures value { result ≡ self.work }
-        ensures sound { Sound T.Trellis.meaning M.Measure.costs result }
-    {
-        let Settled { work } = self;
-        work
-    }
+    ghost use Rattle.records.specs.Tables.{held_of};
+    ghost use Rattle.records.specs.Sound.{Sound};
+
+    ghost view = { λ s. record { seen = record { trellis = s.trellis; measure = s.measure; held = held_of s.table }; choices = s.table.choices } };
+
+    ghost invariant = { λ s. Sound (T.Trellis.meaning s.trellis) (M.Measure.costs s.measure) s.table s.standing };
 }

@@ -6,7 +6,6 @@ ghost use Rattle.paths.specs.Sums.{path_sum};
 ghost use Rattle.paths.specs.Laws.{AnyList};
 ghost use Rattle.paths.specs.Rows.{row_check, if_long_enough, RowsLeft};
 ghost use Rattle.records.specs.Held.{Held};
-ghost use Rattle.records.specs.Tables.{held_of};
 
 use crate::settled::Settled;
 use algebras::algebra::Algebra;
@@ -24,20 +23,18 @@ impl<T: Trellis, M: Measure> Settled<T, M> {
         first: &mut [A::Weight],
         second: &mut [A::Weight],
     ) -> Result<A::Weight, Refusal>
-        ensures value { result_ok result ≡ if_long_enough (T.Trellis.meaning self.now.work.trellis) first.old second.old (path_sum (T.Trellis.meaning self.now.work.trellis) (M.Measure.costs self.now.work.measure) A.Algebra.semiring (held_of self.now.work.table).start (held_of self.now.work.table).end (held_of self.now.work.table).samples) }
-        ensures checked { answer result ≡ row_check (T.Trellis.meaning self.now.work.trellis) first.old second.old }
-        ensures rows { RowsLeft (T.Trellis.meaning self.now.work.trellis) (M.Measure.costs self.now.work.measure) A.Algebra.semiring (held_of self.now.work.table).start (held_of self.now.work.table).samples first.old first.new second.old second.new }
-        ensures law { IfOk result (AnyList (T.Trellis.meaning self.now.work.trellis) (M.Measure.costs self.now.work.measure) A.Algebra.semiring (held_of self.now.work.table).start (held_of self.now.work.table).end (held_of self.now.work.table).samples) }
+        ensures value { result_ok result ≡ if_long_enough (T.Trellis.meaning self.now.seen.trellis) first.old second.old (path_sum (T.Trellis.meaning self.now.seen.trellis) (M.Measure.costs self.now.seen.measure) A.Algebra.semiring self.now.seen.held.start self.now.seen.held.end self.now.seen.held.samples) }
+        ensures checked { answer result ≡ row_check (T.Trellis.meaning self.now.seen.trellis) first.old second.old }
+        ensures rows { RowsLeft (T.Trellis.meaning self.now.seen.trellis) (M.Measure.costs self.now.seen.measure) A.Algebra.semiring self.now.seen.held.start self.now.seen.held.samples first.old first.new second.old second.new }
+        ensures law { IfOk result (AnyList (T.Trellis.meaning self.now.seen.trellis) (M.Measure.costs self.now.seen.measure) A.Algebra.semiring self.now.seen.held.start self.now.seen.held.end self.now.seen.held.samples) }
     {
-        let work = self.look();
-        let table = &work.table;
         forward(
-            &work.trellis,
-            &work.measure,
+            &self.trellis,
+            &self.measure,
             algebra,
-            &table.samples[..table.held],
-            table.start,
-            table.end,
+            self.table.samples.as_slice(),
+            self.table.start,
+            self.table.end,
             first,
             second,
         )

@@ -3,7 +3,6 @@ use Rattle.model.specs.Trellises.{Lawful}
 use Rattle.measures.specs.Erasings.{erasing}
 use Rattle.descriptions.specs.Channels.{channel_meaning, measure_meaning}
 use Rattle.descriptions.specs.ChannelLaws.{channel_lawful}
-use Rattle.records.specs.Tables.{held_of}
 use Rattle.recordings.specs.Recordings.{read_blocks}
 use Rattle.recordings.proofs.Detecting.{detects_from}
 use Rattle.recordings.proofs.reader.detect_from.Goals as goal
@@ -17,7 +16,7 @@ returns c =
     let made = c.record_for-record.ensures in
     let read = c.in_ok-end.ensures in
     let after = c.read_blocks.new.record in
-    let found = detects_from bytes c.args.at c.args.from c.in_ok-end.end c.args.setup.now (held_of after.table) (channel_meaning after.trellis) (erasing (measure_meaning after.measure.below))
-    c.args.letters.now c.detect_at.new.letters _ (ap channel_meaning read.trellis ∙ made.trellis) (ap (λ m. erasing (measure_meaning m.below)) read.measure ∙ made.measure)
+    let found = detects_from bytes c.args.at c.args.from c.in_ok-end.end c.args.setup.now after.held (channel_meaning after.trellis) (erasing (measure_meaning after.measure.below))
+    c.args.letters.now c.detect_at.new.letters _ (ap (λ s. channel_meaning s.trellis) read.others ∙ made.trellis) (ap (λ s. erasing (measure_meaning s.measure.below)) read.others ∙ made.measure)
     (read.held ∙ ap (read_blocks (suc (length bytes)) bytes c.args.from) made.held) (record { value = c.detect_at.ensures.value; letters = c.detect_at.ensures.letters }) in
     record { value = found.0; letters = found.1; lawful = subst Lawful made.trellis (channel_lawful c.record_for-record.result.trellis) }

@@ -1,6 +1,6 @@
 use Rattle.std.proofs.Common.{Ok, sym, ap, ◌∙◌}
-use Rattle.records.specs.Tables.{held_of}
 use Rattle.blocks.specs.Blocks.{content, next_place}
+use Rattle.records.specs.Seen.{with_held}
 use Rattle.recordings.proofs.BlockLists.{blocks_more}
 use Rattle.recordings.proofs.steps.read_blocks.Goals as goal
 
@@ -10,8 +10,7 @@ loop-payload-preserved g c =
     let b = c.in_ok-payload.ensures in
     let is = c.in-Samples-default.is-0 in
     let t = c.in_ok-take_samples.ensures in (
-      blocks_more c.args.recording.now l.place c.in_ok-payload.field-0.1 c.in-Samples-default.payload.now (held_of l.record.table) (held_of c.take_samples.new.record.table)
+      blocks_more c.args.recording.now l.place c.in_ok-payload.field-0.1 c.in-Samples-default.payload.now l.record.held c.take_samples.new.record.held
           (ap (λ k. Ok (content k)) (sym is) ∙ b.value) (b.next ∙ ap (λ k. next_place l.place (content k)) is) t.held ∙ l.invariant.0,
-      t.trellis ∙ l.invariant.1,
-      t.measure ∙ l.invariant.2,
+      t.others ∙ ap (λ s. with_held s c.take_samples.new.record.held) l.invariant.1,
     )

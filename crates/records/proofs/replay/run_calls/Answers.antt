@@ -23,7 +23,7 @@ returns g c =
     let all : take l.call-index cs ≡ cs = take_all l.call-index cs c.loop-call-test.false in
     record {
       settled = l.invariant.0 ∙ ap settled_after all;
-      held = l.invariant.1 ∙ ap (held_after (g.T.Trellis.meaning c.new.result.trellis)) all ∙ ap (λ t. held_after (g.T.Trellis.meaning t) cs) c.new.ensures.trellis;
-      trellis = l.invariant.2 ∙ c.new.ensures.trellis;
-      measure = l.invariant.3 ∙ c.new.ensures.measure;
+      held = l.invariant.1 ∙ ap (held_after (g.T.Trellis.meaning c.new.result.trellis)) all ∙ ap (λ s. held_after (g.T.Trellis.meaning s.trellis) cs) c.new.ensures;
+      trellis = l.invariant.2 ∙ ap (λ s. s.trellis) c.new.ensures;
+      measure = l.invariant.3 ∙ ap (λ s. s.measure) c.new.ensures;
     }
