@@ -1,7 +1,6 @@
 -- The frame of a block: a header, a payload and the rest.
-use Rattle.std.proofs.Common.{◌≡◌, ℕ, ◌+◌, ◌-◌, ◌<◌, ◌≤◌, min, true, leb, List, [], ◌∷◌, ◌++◌, length, get_or, take, drop, Some, sym, refl, ap, ◌∙◌, ⊎_elim, arith, length-append, take-append-drop, le-leb}
-use Rattle.std.proofs.lemmas.List.{take_at, drop_at, take_rest, drop_all}
-use Rattle.std.proofs.lemmas.Bool.{cases_lt}
+use Rattle.std.proofs.Common.{◌≡◌, ℕ, ◌+◌, ◌-◌, ◌≤◌, true, leb, List, [], ◌∷◌, ◌++◌, length, get_or, take, drop, Some, sym, refl, ap, ◌∙◌, arith, length-append, take-append-drop, le-leb}
+use Rattle.std.proofs.lemmas.List.{take_at, drop_at}
 use Rattle.blocks.specs.Blocks.{number_of, length_in, kind_in, frame_of}
 
 -- bytes that are as many as the header says have a frame
@@ -29,9 +28,3 @@ four_bytes (a ∷ b ∷ c ∷ d ∷ bytes) h = refl
 pub frame_parts : (bytes : List ℕ) (n : ℕ) → 4 ≤ length bytes → bytes ≡ get_or bytes 0 0 ∷ get_or bytes 1 0 ∷ get_or bytes 2 0 ∷ get_or bytes 3 0 ∷ (take n (drop 4 bytes) ++ drop n (drop 4 bytes))
 frame_parts bytes n four =
     four_bytes bytes four ∙ ap (λ (xs : List ℕ). get_or bytes 0 0 ∷ get_or bytes 1 0 ∷ get_or bytes 2 0 ∷ get_or bytes 3 0 ∷ xs) (sym (take-append-drop n (drop 4 bytes)))
-
--- the bytes from a place on, with the place cut back to the end
-pub bytes_from : (bytes : List ℕ) (place m : ℕ) → m ≡ min place (length bytes) → take (length bytes - m) (drop m bytes) ≡ drop place bytes
-bytes_from bytes place m e =
-    take_rest bytes m
-    ∙ ⊎_elim (λ (h : place < length bytes). ap (λ (k : ℕ). drop k bytes) (omega arith)) (λ (h : length bytes ≤ place). drop_all m bytes (omega arith) ∙ sym (drop_all place bytes (omega arith))) (cases_lt place (length bytes))

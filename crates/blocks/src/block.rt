@@ -1,5 +1,5 @@
 // Reads one block of a recording.
-ghost use Rattle.std.specs.Prelude.{◌≡◌, ◌^◌, ◌<◌, ◌≤◌, length, drop, IfOk, Ok};
+ghost use Rattle.std.specs.Prelude.{◌≡◌, ◌^◌, ◌<◌, ◌≤◌, length, IfOk, Ok};
 ghost use Rattle.std.specs.Option.{option_map as mapped-some};
 ghost use Rattle.std.specs.Result.{result_map_both};
 ghost use Rattle.model.specs.Refusals.{outcome, refused, refusal_number};
@@ -84,18 +84,11 @@ fn first_block(bytes: &[u8], is_first: bool) -> Result<Block<'_>, Refusal>
     Ok(block_of(kind, frame.payload))
 }
 
-// The bytes from a place on, none past the end.
-fn bytes_from(bytes: &[u8], place: usize) -> &[u8]
-    ensures { result.now ≡ drop place bytes.now }
-{
-    &bytes[place.min(bytes.len())..]
-}
-
 // The block that begins at a place. What is wrong with it is found where it begins.
 fn block_from(recording: &[u8], place: usize, is_first: bool) -> Result<Block<'_>, Fault>
     ensures { result_map_both content refused result ≡ block_at recording.now place is_first }
 {
-    let bytes = bytes_from(recording, place);
+    let bytes = recording.get(place..).unwrap_or_default();
     first_block(bytes, is_first).map_err(|refusal| refusal.at(Layer::Blocks, place))
 }
 

@@ -16,6 +16,11 @@ with_field text name figures = text ++ name ++ figures
 abbrev pub with_line : List ℕ → List ℕ → List ℕ → List ℕ
 with_line text name figures = with_field text name figures ++ codes "\n"
 
+-- the same of a number that may be absent, which a word stands for then
+abbrev pub with_line_or : {N : Type 0} → (N → List ℕ) → List ℕ → List ℕ → List ℕ → Option N → List ℕ
+with_line_or figures text name absent None = with_line text name absent
+with_line_or figures text name absent (Some n) = with_line text name (figures n)
+
 -- a fault is one line with its three numbers
 abbrev pub refusal_text : Refused → List ℕ
 refusal_text f = with_line (with_field (with_field [] (codes "refused ") (decimal f.number)) (codes " layer ") (decimal f.layer)) (codes " place ") (decimal f.place)
@@ -27,8 +32,7 @@ with_measure text (Bits w) = with_line text (codes "measure bits ") (signed_deci
 
 -- the start or the end, `any` where it is absent
 abbrev pub with_anchor : List ℕ → List ℕ → Option ℤ → List ℕ
-with_anchor text name None = text ++ name ++ codes "any\n"
-with_anchor text name (Some z) = with_line text name (signed_decimal z)
+with_anchor text name state = with_line_or signed_decimal text name (codes "any") state
 
 -- a branch, if there is one: state, letter, next state and label
 abbrev pub with_branch : List ℕ → ℕ → ℕ → Branch → List ℕ

@@ -1,9 +1,9 @@
 // The listing of a channel: its sizes, its measure, its start and end, and its branches.
 ghost use Rattle.std.specs.Prelude.{◌≡◌, is_ok, IfOk, OnOk, Some};
 ghost use Rattle.descriptions.specs.Descriptions.{description as described};
-ghost use Rattle.listings.specs.Listings.{with_measure, with_anchor, with_branch, with_state, with_states, with_sizes, listing, either, described_text};
+ghost use Rattle.listings.specs.Listings.{with_measure, with_branch, with_state, with_states, with_sizes, listing, either, described_text};
 
-use crate::text::{fault_text, put, put_field, put_line};
+use crate::text::{fault_text, put, put_field, put_line, put_line_or};
 use descriptions::channel::Channel;
 use descriptions::reader::read_description;
 use lines::form::MeasureLine;
@@ -24,18 +24,6 @@ fn put_measure(out: &mut Vec<u8>, measure: MeasureLine) -> Result<(), AllocError
     match measure {
         MeasureLine::Square => put(out, b"measure square\n"),
         MeasureLine::Bits(width) => put_line(out, b"measure bits ", width),
-    }
-}
-
-fn put_anchor(out: &mut Vec<u8>, name: &[u8], state: Option<i32>) -> Result<(), AllocError>
-    ensures { OnOk result (out.new.items ≡ with_anchor out.old.items name.now state) }
-{
-    match state {
-        None => {
-            put(out, name)?;
-            put(out, b"any\n")
-        },
-        Some(number) => put_line(out, name, number),
     }
 }
 
@@ -84,8 +72,8 @@ pub fn setup_text(heap: Global, setup: &Setup) -> Result<Vec<u8>, AllocError>
     let mut out = Vec::new(heap);
     put_sizes(&mut out, &channel)?;
     put_measure(&mut out, setup.measure)?;
-    put_anchor(&mut out, b"start ", setup.start)?;
-    put_anchor(&mut out, b"end ", setup.end)?;
+    put_line_or(&mut out, b"start ", setup.start, b"any")?;
+    put_line_or(&mut out, b"end ", setup.end, b"any")?;
     put_states(&mut out, &channel)?;
     Ok(out)
 }

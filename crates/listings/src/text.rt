@@ -1,5 +1,5 @@
 // Texts that grow at their end.
-ghost use Rattle.std.specs.Prelude.{◌≡◌, ◌++◌, IfOk, IfSome, OnOk};
+ghost use Rattle.std.specs.Prelude.{◌≡◌, ◌++◌, IfOk, IfSome, OnOk, MatchOption};
 ghost use Rattle.model.specs.Refusals.{refused};
 ghost use Rattle.listings.specs.Listings.{with_field, with_line, refusal_text};
 
@@ -44,6 +44,25 @@ pub fn put_line<N: Display + Copy>(
 {
     put_field(out, name, number)?;
     put(out, b"\n")
+}
+
+// The same of a number that may be absent, which a word stands for then.
+pub fn put_line_or<N: Display + Copy>(
+    out: &mut Vec<u8>,
+    name: &[u8],
+    number: Option<N>,
+    absent: &[u8],
+) -> Result<(), AllocError>
+    ensures { OnOk result (MatchOption number (out.new.items ≡ with_line out.old.items name.now absent.now) (λ n. IfSome (N.output n) (λ figures. out.new.items ≡ with_line out.old.items name.now figures))) }
+{
+    match number {
+        Some(number) => put_line(out, name, number),
+        None => {
+            put(out, name)?;
+            put(out, absent)?;
+            put(out, b"\n")
+        },
+    }
 }
 
 // The one line that a refusal is.

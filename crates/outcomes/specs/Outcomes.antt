@@ -1,15 +1,14 @@
 -- The text of what a recording gives. Each definition says what stands behind a text that it is given.
-use Rattle.std.specs.Prelude.{ℕ, List, [], ◌∷◌, ◌++◌, take, replicate, Some, None, Ok, Err, codes, decimal, Option, Result}
+use Rattle.std.specs.Prelude.{ℕ, List, [], ◌∷◌, ◌++◌, take, replicate, Ok, Err, codes, decimal, Option, Result}
 use Rattle.model.specs.Refusals.{Refused}
 use Rattle.paths.specs.Paths.{Path}
-use Rattle.listings.specs.Listings.{with_line, refusal_text}
+use Rattle.listings.specs.Listings.{with_line, with_line_or, refusal_text}
 use Rattle.recordings.specs.declared.outcome.Outcome.{Outcome}
 use Rattle.recordings.specs.Recordings.{outcome_in, buffer_after}
 
 -- the second, or `none`
 abbrev pub with_second : List ℕ → Option ℕ → List ℕ
-with_second text None = text ++ codes "second none\n"
-with_second text (Some c) = with_line text (codes "second ") (decimal c)
+with_second text second = with_line_or decimal text (codes "second ") (codes "none") second
 
 -- each letter in figures, with nothing between
 abbrev pub with_digits : List ℕ → List ℕ → List ℕ

@@ -2,25 +2,15 @@
 ghost use Rattle.std.specs.Prelude.{◌≡◌, replicate, is_ok, IfOk, OnOk};
 ghost use Rattle.listings.specs.Listings.{either};
 ghost use Rattle.recordings.specs.Recordings.{recording as recorded};
-ghost use Rattle.outcomes.specs.Outcomes.{with_second, with_digits, with_letters, outcome_text, detected_text};
+ghost use Rattle.outcomes.specs.Outcomes.{with_digits, with_letters, outcome_text, detected_text};
 
-use listings::text::{fault_text, put, put_line, put_number};
+use listings::text::{fault_text, put, put_line, put_line_or, put_number};
 use recordings::outcome::Outcome;
 use recordings::reader::read_recording;
 use std::alloc::{AllocError, Global};
 
 // The most letters that a recording gives.
 const MOST_LETTERS: usize = 512;
-
-// The second, or that there is none.
-fn put_second(out: &mut Vec<u8>, second: Option<u64>) -> Result<(), AllocError>
-    ensures { OnOk result (out.new.items ≡ with_second out.old.items second) }
-{
-    match second {
-        None => put(out, b"second none\n"),
-        Some(cost) => put_line(out, b"second ", cost),
-    }
-}
 
 // Each letter in figures, with nothing between.
 fn put_digits(out: &mut Vec<u8>, letters: &[u8]) -> Result<(), AllocError>
@@ -54,7 +44,7 @@ pub fn outcome_lines(heap: Global, outcome: &Outcome, letters: &[u8]) -> Result<
     put_line(&mut out, b"paths ", outcome.paths)?;
     put_line(&mut out, b"cost ", report.cost)?;
     put_line(&mut out, b"ties ", report.ties)?;
-    put_second(&mut out, report.second)?;
+    put_line_or(&mut out, b"second ", report.second, b"none")?;
     put_line(&mut out, b"start ", report.first)?;
     put_line(&mut out, b"end ", report.last)?;
     put_letters(&mut out, letters)?;
