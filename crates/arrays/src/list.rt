@@ -1,5 +1,5 @@
 // A list of up to N items that lies in an array, so that it takes no memory of its own.
-ghost use Rattle.std.specs.Prelude.{◌≡◌, ◌<◌, ◌++◌, [], ◌∷◌, length, take, OnOk, OnErr, ◌↔◌, IsTrue, IsOk, if◌then◌else◌, nat_lt};
+ghost use Rattle.std.specs.Prelude.{◌≡◌, ◌<◌, ◌++◌, [], ◌∷◌, length, take, OnOk, OnErr, ◌↔◌, IsTrue, IsOk};
 ghost use Rattle.arrays.specs.Lists.{list_from, list_items, with_last};
 
 // The list is full.
@@ -26,10 +26,9 @@ impl<T: Copy, const N: usize> FixedList<T, N> {
 
     // One item more at the end; where the list is full it stays as it was.
     pub fn push(&mut self, item: T) -> Result<(), Full>
-        ensures room { IsOk result ↔ (self.old.len < N) }
-        ensures after { self.new ≡ (if nat_lt self.old.len N then with_last self.old item else self.old) }
+        ensures room { IsOk result ↔ (length (list_items self.old) < N) }
         ensures items { OnOk result (list_items self.new ≡ list_items self.old ++ item ∷ []) }
-        ensures some { IsOk result ↔ (length (list_items self.old) < N) }
+        ensures after { OnOk result (self.new ≡ with_last self.old item) }
         ensures full { OnErr result (self.new ≡ self.old) }
     {
         if self.len >= N {

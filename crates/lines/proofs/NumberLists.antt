@@ -1,11 +1,11 @@
 -- How a list of numbers is read, word by word.
-use Rattle.std.proofs.Common.{◌≡◌, ℕ, suc, ◌+◌, ◌-◌, ◌<◌, ◌≤◌, Bool, true, false, cond, ◌&&◌, ltb, leb, List, [], ◌∷◌, ◌++◌, length, set, replicate, ℤ, pos, Some, None, Option, sym, refl, ap, ◌∙◌, append_assoc, append-nil, arith, le-leb, lt-ltb}
+use Rattle.std.proofs.Common.{◌≡◌, ℕ, suc, ◌+◌, ◌-◌, ◌<◌, ◌≤◌, Bool, true, false, cond, ◌&&◌, ltb, leb, List, [], ◌∷◌, ◌++◌, length, set, replicate, ℤ, pos, Some, None, Option, sym, refl, ap, ◌∙◌, append_assoc, append-nil, length-append, length-take, arith, le-leb, lt-ltb}
 use borrow.Author.Tests.{lt-leb}
-use Rattle.std.proofs.lemmas.List.{set_at, length_push}
+use Rattle.std.proofs.lemmas.List.{set_at, length_push, length-replicate}
 use Rattle.std.proofs.lemmas.Bool.{ltb-false, and_right}
 use Rattle.std.specs.Option.{option_map}
 use Rattle.arrays.specs.declared.list.FixedList.{FixedList}
-use Rattle.arrays.specs.Lists.{with_last}
+use Rattle.arrays.specs.Lists.{list_items, with_last}
 use Rattle.lines.specs.declared.number.Radix.{Radix}
 use Rattle.lines.specs.Words.{first, others}
 use Rattle.lines.specs.Numbers.{number_in}
@@ -20,6 +20,9 @@ list_push xs x h =
     ∙ sym (append_assoc xs (x ∷ []) (replicate (7 - length (xs ++ x ∷ [])) (pos 0))) in
     let len : length xs + 1 ≡ length (xs ++ x ∷ []) = sym (length_push xs x) in
     λ i. record { items = items i; len = len i }
+
+length_back : (xs : List ℤ) → length xs ≤ 7 → length (list_items (list_from xs)) ≡ length xs
+length_back xs h = simp (length-take, length-append, length-replicate) (omega arith)
 
 -- the first word of a list, taken off
 pub first_of : {X : List ℕ} (ws : List (List ℕ)) → Some X ≡ first ws → ws ≡ X ∷ others ws
@@ -63,15 +66,14 @@ module _ (r : Radix) (ws : List (List ℕ)) where
     len_is : n.len ≡ length h.xs
     len_is = ap (λ (m : FixedList ℤ 7). m.len) h.is
 
-    pub reads_more : {w : List ℕ} (x : ℤ) → Some w ≡ first left → Some x ≡ number_in r w → n.len < 7 → (after : FixedList ℤ 7) → after ≡ cond (ltb n.len 7) (with_last n x) n → Reads after (others left)
+    pub reads_more : {w : List ℕ} (x : ℤ) → Some w ≡ first left → Some x ≡ number_in r w → length (list_items n) < 7 → (after : FixedList ℤ 7) → after ≡ with_last n x → Reads after (others left)
     reads_more {w} x e v room after pushed =
         let cut = first_of left e in
-        let small : length h.xs < 7 = omega (arith, len_is) in
-        let full : ltb n.len 7 ≡ true = lt-ltb _ _ room in
+        let small : length h.xs < 7 = omega (arith, ap (λ (m : FixedList ℤ 7). length (list_items m)) h.is, length_back h.xs h.few, room) in
         let l : length left ≡ suc (length (others left)) = ap length cut in
         record {
           xs = h.xs ++ x ∷ [];
-          is = rw full at pushed ∙ ap (λ (m : FixedList ℤ 7). with_last m x) h.is ∙ list_push h.xs x small;
+          is = pushed ∙ ap (λ (m : FixedList ℤ 7). with_last m x) h.is ∙ list_push h.xs x small;
           few = omega (arith, length_push h.xs x);
           count = omega (arith, h.count, length_push h.xs x);
           values = h.values ∙ ap (λ (k : List (List ℕ)). onto h.xs (all_numbers r k)) cut ∙ ap (λ (o : Option ℤ). onto h.xs (in_front o (all_numbers r (others left)))) (sym v) ∙ onto_more h.xs x (all_numbers r (others left));
