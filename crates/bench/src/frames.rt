@@ -13,9 +13,9 @@ use records::settled::Settled;
 use survivors::layout::MOST_SAMPLES;
 
 // The samples of a frame, in place of those held.
-fn take_frame<T: Trellis, M: Measure>(
+fn take_frame<T: Trellis, M: Measure, N: Noise>(
     listening: &mut Listening<T, M>,
-    signal: &mut Signal<T>,
+    signal: &mut Signal<T, N>,
     samples: usize,
 ) -> Result<(), Refusal> {
     listening.rewind(0)?;
@@ -78,10 +78,10 @@ fn ask<T: Trellis, M: Measure>(
 }
 
 // The frames of a plan, on one record that is settled anew for each; answers the checksum.
-pub(crate) fn run<T: Trellis + Copy, M: Measure + Drop>(
+pub(crate) fn run<T: Trellis + Copy, M: Measure + Drop, N: Noise>(
     trellis: T,
     measure: M,
-    noise: Noise,
+    noise: N,
     plan: Plan,
 ) -> Result<u64, Refusal> {
     let mut sum = Checksum { value: 0 };
