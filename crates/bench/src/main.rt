@@ -44,13 +44,9 @@ fn show_checksum(rt: &HostRuntime, workload: Workload, plan: Plan) -> anyhow::Re
     }
 }
 
-fn start(rt: &HostRuntime) -> anyhow::Result<()> {
-    match read_request(env::args(rt)?)? {
-        Request::Size => show_size(rt),
-        Request::Run(workload, plan) => show_checksum(rt, workload, plan),
-    }
-}
-
 fn main(rt: HostRuntime) -> anyhow::Result<()> {
-    start(&rt)
+    match read_request(env::args(&rt)?)? {
+        Request::Size => show_size(&rt),
+        Request::Run(workload, plan) => show_checksum(&rt, workload, plan),
+    }
 }

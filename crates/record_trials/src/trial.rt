@@ -55,7 +55,8 @@ impl<'a> Trial<'a> {
     }
 }
 
-// The record after the quiet calls, and how many of them were accepted.
+// The record after the quiet calls, and how many of them were accepted. The record goes by value from call to call, so
+// the accepted ones are counted on the way.
 fn make_quiet<T: Trellis + Drop, M: Measure + Drop>(
     mut record: Record<T, M>,
     trial: Trial<'_>,
@@ -92,12 +93,10 @@ fn make_all<T: Trellis + Drop, M: Measure + Drop>(
     measure: M,
     trial: Trial<'_>,
 ) -> io::Result<()> {
-    let name = trial.name;
-    println!(rt; "-- {name}")?;
+    println!(rt; "-- {}", trial.name)?;
     let (record, accepted) = make_quiet(Record::Listening(Listening::new(trellis, measure)), trial);
     if trial.quiet > 0 {
-        let quiet = trial.quiet;
-        println!(rt; "{quiet} calls: {accepted} accepted")?;
+        println!(rt; "{} calls: {accepted} accepted", trial.quiet)?;
     }
     make_others(rt, record, trial)
 }
@@ -136,9 +135,11 @@ fn replay_all<T: Trellis + Drop, M: Measure + Drop>(
         &mut [Counting.zero(); MOST_STATES],
         &mut [Counting.zero(); MOST_STATES],
     );
-    let all = trial.calls.len();
     let held = count_samples(record);
-    println!(rt; "replayed {made} of {all}, {held} samples held")?;
+    println!(rt;
+        "replayed {made} of {}, {held} samples held",
+        trial.calls.len()
+    )?;
     match answers {
         Some(answers) => {
             println!(rt; "{}", Shown(answers.report))?;
