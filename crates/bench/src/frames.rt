@@ -13,9 +13,9 @@ use records::settled::Settled;
 use survivors::layout::MOST_SAMPLES;
 
 // The samples of a frame, in place of those held.
-fn take_frame<T: Trellis, M: Measure>(
+fn take_frame<T: Trellis, M: Measure, N: Noise>(
     listening: &mut Listening<T, M>,
-    signal: &mut Signal<T>,
+    signal: &mut Signal<T, N>,
     samples: usize,
 ) -> Result<(), Refusal> {
     listening.rewind(0)?;
@@ -41,7 +41,7 @@ fn ask_report<T: Trellis, M: Measure>(
     let mut letters = [0; MOST_SAMPLES];
     let report = settled.report(&mut letters, 0)?;
     sum.add_report(&report);
-    sum.add_letters(&letters[0..samples.min(MOST_SAMPLES)]);
+    sum.add_letters(&letters[..samples.min(MOST_SAMPLES)]);
     Ok(())
 }
 
@@ -56,7 +56,8 @@ fn ask_weigh<T: Trellis, M: Measure>(
     Ok(())
 }
 
-// The questions of a part.
+// The questions of a part. A word of the command line names it, so closures in place of the arms would be handed over by
+// this same match, and the part that settles nothing would need a loop of its own.
 fn ask<T: Trellis, M: Measure>(
     settled: &Settled<T, M>,
     plan: Plan,
@@ -78,18 +79,18 @@ fn ask<T: Trellis, M: Measure>(
 }
 
 // The frames of a plan, on one record that is settled anew for each; answers the checksum.
-pub(crate) fn run<T: Trellis + Copy, M: Measure + Drop>(
+pub(crate) fn run<T: Trellis + Copy, M: Measure + Drop, N: Noise>(
     trellis: T,
     measure: M,
-    noise: Noise,
+    noise: N,
     plan: Plan,
 ) -> Result<u64, Refusal> {
-    let mut sum = Checksum { value: 0 };
+    let mut sum = Checksum::default();
     let mut signal = Signal::new(trellis, noise);
     let mut listening = Listening::new(trellis, measure);
     for _ in 0..plan.frames {
         take_frame(&mut listening, &mut signal, plan.samples)?;
-        if let Part::Samples = plan.part {
+        if plan.part == Part::Samples {
             continue;
         }
         let settled = listening.settle();

@@ -16,7 +16,7 @@ mod workloads;
 use crate::plan::{Plan, Workload};
 use crate::request::{Request, read_request};
 use crate::workloads::run_workload;
-use anyhow::anyhow;
+use anyhow::bail;
 use measures::bits::Bits;
 use records::listening::Listening;
 use records::settled::Settled;
@@ -38,20 +38,15 @@ fn show_checksum(rt: &HostRuntime, workload: Workload, plan: Plan) -> anyhow::Re
             Ok(())
         }
         Err(refusal) => {
-            let number = refusal.number();
-            println!(rt; "refused {number}")?;
-            Err(anyhow!("the record refused a call"))
+            println!(rt; "{refusal}")?;
+            bail!("the record refused a call")
         }
     }
 }
 
-fn start(rt: &HostRuntime) -> anyhow::Result<()> {
-    match read_request(env::args(rt)?)? {
-        Request::Size => show_size(rt),
-        Request::Run(workload, plan) => show_checksum(rt, workload, plan),
-    }
-}
-
 fn main(rt: HostRuntime) -> anyhow::Result<()> {
-    start(&rt)
+    match read_request(env::args(&rt)?)? {
+        Request::Size => show_size(&rt),
+        Request::Run(workload, plan) => show_checksum(&rt, workload, plan),
+    }
 }

@@ -1,7 +1,10 @@
 // What a run does, from the words of the command line.
+use std::error::Error;
+use std::fmt;
+use std::str::FromStr;
 
 // What is done with each frame. Every part takes the samples, and all but the first settle.
-#[derive(Clone, Copy)]
+#[derive(Clone, Copy, Debug, PartialEq, Eq)]
 pub(crate) enum Part {
     Samples,
     Settle,
@@ -10,7 +13,7 @@ pub(crate) enum Part {
     Whole,
 }
 
-#[derive(Clone, Copy)]
+#[derive(Clone, Copy, Debug, PartialEq, Eq)]
 pub(crate) enum Workload {
     Ccsds,
     Taps2,
@@ -20,35 +23,59 @@ pub(crate) enum Workload {
 }
 
 // How many frames of how many samples, and what is done with each.
-#[derive(Clone, Copy)]
+#[derive(Clone, Copy, Debug, PartialEq, Eq)]
 pub(crate) struct Plan {
     pub(crate) frames: u64,
     pub(crate) samples: usize,
     pub(crate) part: Part,
 }
 
-pub(crate) fn workload_named(name: &str) -> Option<Workload> {
-    match name {
-        "ccsds" => Some(Workload::Ccsds),
-        "taps2" => Some(Workload::Taps2),
-        "taps4" => Some(Workload::Taps4),
-        "memory1" => Some(Workload::Memory(1)),
-        "memory2" => Some(Workload::Memory(2)),
-        "memory3" => Some(Workload::Memory(3)),
-        "memory4" => Some(Workload::Memory(4)),
-        "memory5" => Some(Workload::Memory(5)),
-        "memory6" => Some(Workload::Memory(6)),
-        _ => None,
+// What a word of the command line should have named.
+#[derive(Clone, Copy, Debug, PartialEq, Eq)]
+pub(crate) enum NameError {
+    Part,
+    Workload,
+}
+
+impl fmt::Display for NameError {
+    fn fmt<W: fmt::Write>(&self, f: &mut fmt::Formatter<W>) -> fmt::Result {
+        match self {
+            NameError::Part => write!(f, "no such part"),
+            NameError::Workload => write!(f, "no such workload"),
+        }
     }
 }
 
-pub(crate) fn part_named(name: &str) -> Option<Part> {
-    match name {
-        "samples" => Some(Part::Samples),
-        "settle" => Some(Part::Settle),
-        "report" => Some(Part::Report),
-        "weigh" => Some(Part::Weigh),
-        "whole" => Some(Part::Whole),
-        _ => None,
+impl Error for NameError {}
+
+impl FromStr for Part {
+    type Err = NameError;
+
+    fn from_str(name: &str) -> Result<Part, NameError> {
+        match name {
+            "samples" => Ok(Part::Samples),
+            "settle" => Ok(Part::Settle),
+            "report" => Ok(Part::Report),
+            "weigh" => Ok(Part::Weigh),
+            "whole" => Ok(Part::Whole),
+            _ => Err(NameError::Part),
+        }
+    }
+}
+
+impl FromStr for Workload {
+    type Err = NameError;
+
+    fn from_str(name: &str) -> Result<Workload, NameError> {
+        match name {
+            "ccsds" => Ok(Workload::Ccsds),
+            "taps2" => Ok(Workload::Taps2),
+            "taps4" => Ok(Workload::Taps4),
+            _ => match name.strip_prefix("memory").map(str::as_bytes) {
+                // One digit, and no sign or zero before it, as a number read by `parse` may have.
+                Some([letters @ b'1'..=b'6']) => Ok(Workload::Memory(usize::from(*letters - b'0'))),
+                _ => Err(NameError::Workload),
+            },
+        }
     }
 }

@@ -27,7 +27,6 @@ impl Random {
     pub(crate) fn below(&mut self, bound: u64) -> u64
         ensures { 0 < bound → result < bound }
     {
-        let high = self.next() >> 32;
-        if bound == 0 { 0 } else { high % bound }
+        (self.next() >> 32).checked_rem(bound).unwrap_or(0)
     }
 }

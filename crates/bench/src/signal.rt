@@ -4,15 +4,15 @@ use crate::random::Random;
 use model::trellis::Trellis;
 
 #[derive(Drop)]
-pub(crate) struct Signal<T: Trellis> {
+pub(crate) struct Signal<T: Trellis, N: Noise> {
     trellis: T,
-    noise: Noise,
+    noise: N,
     random: Random,
     state: usize,
 }
 
-impl<T: Trellis> Signal<T> {
-    pub(crate) fn new(trellis: T, noise: Noise) -> Signal<T> {
+impl<T: Trellis, N: Noise> Signal<T, N> {
+    pub(crate) fn new(trellis: T, noise: N) -> Signal<T, N> {
         Signal {
             trellis,
             noise,
@@ -29,13 +29,9 @@ impl<T: Trellis> Signal<T> {
     // The sample for the next letter; a letter without a branch stays where it is and sends 0.
     pub(crate) fn sample(&mut self) -> i16 {
         let letter = self.random.below(self.trellis.letters() as u64);
-        let label = match self.trellis.branch(self.state, letter as usize) {
-            Some((next, label)) => {
-                self.state = next;
-                label
-            }
-            None => 0,
-        };
+        let branch = self.trellis.branch(self.state, letter as usize);
+        let (state, label) = branch.unwrap_or((self.state, 0));
+        self.state = state;
         self.noise.sample(&mut self.random, label)
     }
 }

@@ -1,6 +1,6 @@
 // The trellis, the measure and the noise of each workload.
 use crate::frames::run;
-use crate::noise::Noise;
+use crate::noise::{Flips, Small};
 use crate::plan::{Plan, Workload};
 use measures::bits::Bits;
 use measures::square::Square;
@@ -12,13 +12,13 @@ const TAPS: [i32; 7] = [1, 3, 5, -2, 7, 4, 2];
 
 fn run_code(plan: Plan) -> Result<u64, Refusal> {
     let code = Code::new(7, 1, &[0o171, 0o133]);
-    run(code, Bits::new(2), Noise::Flips, plan)
+    run(code, Bits::new(2), Flips, plan)
 }
 
 // A channel with the first so many of the taps.
 fn run_taps(letters: i32, count: usize, plan: Plan) -> Result<u64, Refusal> {
-    let taps = Taps::new(letters, &TAPS[0..count.min(7)]);
-    run(taps, Square, Noise::Small, plan)
+    let taps = Taps::new(letters, &TAPS[..count.min(TAPS.len())]);
+    run(taps, Square, Small, plan)
 }
 
 // The checksum of a workload's frames.

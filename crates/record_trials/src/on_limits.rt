@@ -1,52 +1,43 @@
 // Trials on the run-length limit 2 to 3.
-use crate::trial::{Trial, make_all, replay_all};
+use crate::trial::{Trial, settled_after, try_each};
 use measures::erasing::Erasing;
 use measures::square::Square;
-use records::call::Call;
+use records::call::Call::{Anchor, Report, Resume, Settle, Take};
 use std::io;
 use trellises::run_length::RunLength;
 
-fn run(rt: &HostRuntime, trial: Trial<'_>) -> io::Result<()> {
+pub(crate) fn try_all(rt: &HostRuntime) -> io::Result<()> {
+    let mut full = settled_after::<514>(1);
+    full[0] = Anchor(Some(0), Some(0));
     let limit = RunLength::new(2, 3);
-    let squares = Erasing::new(Square);
-    make_all(rt, limit, squares, trial)?;
-    replay_all(rt, limit, squares, trial)
-}
-
-// No path on one and on two samples, one on three.
-pub(crate) fn try_limits(rt: &HostRuntime) -> io::Result<()> {
-    run(
+    try_each(
         rt,
-        Trial::new(
-            "limit, no path before the third sample",
-            &[
-                Call::Anchor(Some(0), Some(0)),
-                Call::Take(0),
-                Call::Settle,
-                Call::Report(8, 0),
-                Call::Resume,
-                Call::Take(0),
-                Call::Settle,
-                Call::Report(8, 0),
-                Call::Report(8, 9),
-                Call::Resume,
-                Call::Take(0),
-                Call::Settle,
-                Call::Report(8, 0),
-            ],
-        ),
-    )
-}
-
-// As many samples as a record holds.
-pub(crate) fn try_full_limit(rt: &HostRuntime) -> io::Result<()> {
-    let mut calls = [Call::Take(1); 514];
-    calls[0] = Call::Anchor(Some(0), Some(0));
-    calls[513] = Call::Settle;
-    run(
-        rt,
-        Trial::new("limit, a full record", &calls)
-            .with_quiet(513)
-            .with_room(512, 0),
+        || limit,
+        Erasing::new(Square),
+        &[
+            // No path on one and on two samples, one on three.
+            Trial::new(
+                "limit, no path before the third sample",
+                &[
+                    Anchor(Some(0), Some(0)),
+                    Take(0),
+                    Settle,
+                    Report(8, 0),
+                    Resume,
+                    Take(0),
+                    Settle,
+                    Report(8, 0),
+                    Report(8, 9),
+                    Resume,
+                    Take(0),
+                    Settle,
+                    Report(8, 0),
+                ],
+            ),
+            // As many samples as a record holds.
+            Trial::new("limit, a full record", &full)
+                .with_quiet(513)
+                .with_room(512, 0),
+        ],
     )
 }

@@ -1,68 +1,64 @@
 // What is printed of answers.
 use algebras::weights::Count;
 use model::refusal::Refusal;
-use records::answers::Answers;
 use records::report::Report;
-use std::{fmt, io};
+use std::fmt;
+
+// An answer, in the words of the output.
+#[derive(Clone, Copy)]
+pub(crate) struct Shown<A>(pub(crate) A);
 
 // What a call answered, if the record's state has the call.
-#[derive(Clone, Copy)]
-pub(crate) struct Answer(pub(crate) Option<Result<(), Refusal>>);
-
-impl fmt::Display for Answer {
+impl fmt::Display for Shown<Option<Result<(), Refusal>>> {
     fn fmt<W: fmt::Write>(&self, f: &mut fmt::Formatter<W>) -> fmt::Result {
         match self.0 {
             None => write!(f, "not allowed"),
             Some(Ok(())) => write!(f, "accepted"),
-            Some(Err(refusal)) => {
-                let number = refusal.number();
-                write!(f, "refused {number}")
+            Some(Err(refusal)) => write!(f, "{refusal}"),
+        }
+    }
+}
+
+// A report without its letters, or why it is refused.
+impl fmt::Display for Shown<Result<Report, Refusal>> {
+    fn fmt<W: fmt::Write>(&self, f: &mut fmt::Formatter<W>) -> fmt::Result {
+        match self.0 {
+            Ok(
+                Report {
+                    first,
+                    last,
+                    cost,
+                    ties,
+                    second,
+                },
+            ) => {
+                write!(f, "from {first} to {last}, cost {cost}, ties {ties}, ")?;
+                match second {
+                    Some(second) => write!(f, "second {second}"),
+                    None => write!(f, "no second"),
+                }
             }
+            Err(refusal) => write!(f, "no report: {refusal}"),
         }
     }
 }
 
-fn show_report(rt: &HostRuntime, report: Report) -> io::Result<()> {
-    let first = report.first;
-    let last = report.last;
-    let cost = report.cost;
-    let ties = report.ties;
-    print!(rt; "from {first} to {last}, cost {cost}, ties {ties}")?;
-    match report.second {
-        Some(second) => println!(rt; ", second {second}"),
-        None => println!(rt; ", no second"),
-    }
-}
-
-// The report and the number of paths, or why they are refused.
-pub(crate) fn show_answers(rt: &HostRuntime, answers: Option<Answers<Count>>) -> io::Result<()> {
-    let Some(answers) = answers else {
-        return println!(rt; "not settled");
-    };
-    match answers.report {
-        Ok(report) => show_report(rt, report)?,
-        Err(refusal) => {
-            let number = refusal.number();
-            println!(rt; "no report: refused {number}")?;
-        }
-    }
-    match answers.weigh {
-        Ok(count) => {
-            let paths = count.value();
-            println!(rt; "paths {paths}")
-        }
-        Err(refusal) => {
-            let number = refusal.number();
-            println!(rt; "no count: refused {number}")
+// The number of paths, or why it is refused.
+impl fmt::Display for Shown<Result<Count, Refusal>> {
+    fn fmt<W: fmt::Write>(&self, f: &mut fmt::Formatter<W>) -> fmt::Result {
+        match self.0 {
+            Ok(count) => write!(f, "paths {}", count.value()),
+            Err(refusal) => write!(f, "no count: {refusal}"),
         }
     }
 }
 
-// The letters of a buffer, in one line.
-pub(crate) fn show_buffer(rt: &HostRuntime, buffer: &[u8]) -> io::Result<()> {
-    print!(rt; "buffer ")?;
-    for letter in buffer {
-        print!(rt; "{letter}")?;
+// The letters of a buffer, with nothing between them.
+impl fmt::Display for Shown<&[u8]> {
+    fn fmt<W: fmt::Write>(&self, f: &mut fmt::Formatter<W>) -> fmt::Result {
+        for letter in self.0 {
+            write!(f, "{letter}")?;
+        }
+        Ok(())
     }
-    println!(rt; "")
 }

@@ -4,11 +4,11 @@ ghost use Rattle.std.specs.Prelude.{◌≡◌, length};
 ghost use Rattle.records.specs.Held.{Held};
 ghost use Rattle.records.specs.Records.{held_in};
 
-use crate::showing::{Answer, show_answers, show_buffer};
+use crate::showing::Shown;
 use algebras::algebra::Algebra;
 use algebras::counting::Counting;
 use model::measure::Measure;
-use model::trellis::Trellis;
+use model::trellis::{MOST_STATES, Trellis};
 use records::answers::Replay;
 use records::call::Call;
 use records::listening::Listening;
@@ -55,17 +55,17 @@ impl<'a> Trial<'a> {
     }
 }
 
-// The record after the quiet calls, and how many of them were accepted.
+// The record after the quiet calls, and how many of them were accepted. The record goes by value from call to call, so
+// the accepted ones are counted on the way.
 fn make_quiet<T: Trellis + Drop, M: Measure + Drop>(
-    record: Record<T, M>,
+    mut record: Record<T, M>,
     trial: Trial<'_>,
 ) -> (Record<T, M>, usize) {
-    let mut record = record;
     let mut accepted = 0usize;
     for call in trial.calls.iter().take(trial.quiet) {
         let (after, answer) = make_call(record, *call);
         record = after;
-        if let Some(Ok(())) = answer {
+        if answer == Some(Ok(())) {
             accepted = accepted.saturating_add(1);
         }
     }
@@ -75,32 +75,28 @@ fn make_quiet<T: Trellis + Drop, M: Measure + Drop>(
 // The other calls, a line for each.
 fn make_others<T: Trellis + Drop, M: Measure + Drop>(
     rt: &HostRuntime,
-    record: Record<T, M>,
+    mut record: Record<T, M>,
     trial: Trial<'_>,
 ) -> io::Result<()> {
-    let mut record = record;
     for call in trial.calls.iter().skip(trial.quiet) {
         let (after, answer) = make_call(record, *call);
         record = after;
-        let answer = Answer(answer);
-        println!(rt; "{call:?}: {answer}")?;
+        println!(rt; "{call:?}: {}", Shown(answer))?;
     }
     Ok(())
 }
 
 // Makes the calls one by one. One that is not allowed leaves the record as it was, and the next is made on it.
-pub(crate) fn make_all<T: Trellis + Drop, M: Measure + Drop>(
+fn make_all<T: Trellis + Drop, M: Measure + Drop>(
     rt: &HostRuntime,
     trellis: T,
     measure: M,
     trial: Trial<'_>,
 ) -> io::Result<()> {
-    let name = trial.name;
-    println!(rt; "-- {name}")?;
+    println!(rt; "-- {}", trial.name)?;
     let (record, accepted) = make_quiet(Record::Listening(Listening::new(trellis, measure)), trial);
     if trial.quiet > 0 {
-        let quiet = trial.quiet;
-        println!(rt; "{quiet} calls: {accepted} accepted")?;
+        println!(rt; "{} calls: {accepted} accepted", trial.quiet)?;
     }
     make_others(rt, record, trial)
 }
@@ -117,7 +113,7 @@ fn count_samples<T: Trellis + Drop, M: Measure + Drop>(record: Record<T, M>) -> 
 
 // Replays the calls and shows what came of it: how many were made, the report and the number of paths if the record is
 // settled, the buffer, which held nines before, and how many samples the record holds.
-pub(crate) fn replay_all<T: Trellis + Drop, M: Measure + Drop>(
+fn replay_all<T: Trellis + Drop, M: Measure + Drop>(
     rt: &HostRuntime,
     trellis: T,
     measure: M,
@@ -136,12 +132,46 @@ pub(crate) fn replay_all<T: Trellis + Drop, M: Measure + Drop>(
         &Counting,
         buffer,
         trial.place,
-        &mut [Counting.zero(); 64],
-        &mut [Counting.zero(); 64],
+        &mut [Counting.zero(); MOST_STATES],
+        &mut [Counting.zero(); MOST_STATES],
     );
-    let all = trial.calls.len();
     let held = count_samples(record);
-    println!(rt; "replayed {made} of {all}, {held} samples held")?;
-    show_answers(rt, answers)?;
-    show_buffer(rt, buffer)
+    println!(rt;
+        "replayed {made} of {}, {held} samples held",
+        trial.calls.len()
+    )?;
+    match answers {
+        Some(answers) => {
+            println!(rt; "{}", Shown(answers.report))?;
+            println!(rt; "{}", Shown(answers.weigh))?;
+        }
+        None => println!(rt; "not settled")?,
+    }
+    println!(rt; "buffer {}", Shown(&*buffer))
+}
+
+// Tries each list on a trellis and a measure: call by call, and then replayed. Not every trellis can be copied, so each
+// of the two is given one of its own.
+pub(crate) fn try_each<T: Trellis + Drop, M: Measure + Copy, F: Fn() -> T>(
+    rt: &HostRuntime,
+    make_trellis: F,
+    measure: M,
+    trials: &[Trial<'_>],
+) -> io::Result<()>
+    requires { F.IsAlwaysCallable make_trellis }
+{
+    for trial in trials {
+        make_all(rt, make_trellis(), measure, *trial)?;
+        replay_all(rt, make_trellis(), measure, *trial)?;
+    }
+    Ok(())
+}
+
+// One sample again and again, and then a settle.
+pub(crate) fn settled_after<const N: usize>(sample: i16) -> [Call; N] {
+    let mut calls = [Call::Take(sample); N];
+    if let Some(last) = calls.last_mut() {
+        *last = Call::Settle;
+    }
+    calls
 }
