@@ -5,6 +5,7 @@ use Rattle.algebras.specs.Semirings.{Semiring}
 use Rattle.paths.specs.Paths.{permits}
 use Rattle.paths.specs.Listings.{below}
 use Rattle.paths.specs.Sums.{total}
+use Rattle.paths.specs.Rows.{Entries}
 
 -- what a branch brings of the weight v into the state t, on the sample x
 abbrev pub brings_into : {W : Type 0} → (ℤ → ℤ → ℕ) → Semiring W → ℤ → ℕ → Branch → W → W
@@ -32,3 +33,7 @@ after d cost r row (x ∷ xs) = after d cost r (stepped d cost r x row) xs
 -- the row before any sample
 abbrev pub opened : {W : Type 0} → Semiring W → Option ℕ → ℕ → W
 opened r start s = cond (permits start s) r.one r.zero
+
+-- the entries, after the samples
+abbrev pub Advanced : {W : Type 0} → Diagram → (ℤ → ℤ → ℕ) → Semiring W → List ℤ → List W → List W → Type 0
+Advanced d cost r xs old new = Entries d.states (after d cost r (λ s. slice_index_or old s r.zero) xs) old new

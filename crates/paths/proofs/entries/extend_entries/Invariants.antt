@@ -1,6 +1,6 @@
 use Rattle.std.proofs.Common.{◌≡◌, get_or, take}
 use Rattle.paths.specs.FlatRecursion.{with_branches}
-use Rattle.paths.proofs.flat_entries.extend_entries.Given as goal
+use Rattle.paths.proofs.entries.extend_entries.Given as goal
 
 abbrev pub invariant-loop-branch : goal.invariant-loop-branch
 invariant-loop-branch g l =
