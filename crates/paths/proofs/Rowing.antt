@@ -1,8 +1,6 @@
 -- Rows that are written entry by entry, and rows to which the branches of a list are added.
 use Rattle.std.proofs.Common.{◌≡◌, ℕ, ◌+◌, ◌<◌, ◌≤◌, Bool, true, false, cond, eqb, ◌≢◌, List, [], ◌∷◌, ◌++◌, length, get_or, drop, set, ℤ, Some, None, Option, sym, refl, ap, ◌∙◌, arith, get_or-set_other, get_or-set_same, length-set, drop-set-lt, below_more, eqb-true}
 use borrow.Author.Tests.{eqb-false}
-use Rattle.std.proofs.Math.ListN.{get_or-append}
-use Rattle.std.proofs.Math.Seq.{drop-append_seam}
 use Rattle.std.proofs.lemmas.List.{get_or_default}
 use Rattle.std.specs.List.{AllByRecursion}
 use Rattle.model.specs.Trellises.{Branch, StaysIn}
@@ -15,13 +13,6 @@ use Rattle.paths.specs.Rows.{Entries}
 use Rattle.paths.specs.Branches.{Within}
 use Rattle.paths.specs.FlatRecursion.{branch_brings, with_listed_branch, with_branches}
 use Rattle.paths.proofs.Totals.{plus_zero, total_more}
-
--- entries that are written before the others
-pub front : {W : Type 0} (n : ℕ) (f : ℕ → W) (ws row : List W) → length ws ≡ n → ((k : ℕ) (d : W) → k < n → get_or ws k d ≡ f k) → Entries n f row (ws ++ drop n row)
-front n f ws row e h = record {
-  entry = λ k d l. get_or-append ws (drop n row) d k (omega arith) ∙ h k d l;
-  rest = sym (ap (λ j. drop j (ws ++ drop n row)) e) ∙ drop-append_seam ws (drop n row);
-}
 
 -- one entry more of f
 pub placed : {W : Type 0} (f : ℕ → W) (ws : List W) (i : ℕ) (w d : W) → i < length ws → ((k : ℕ) → k < i → get_or ws k d ≡ f k) → w ≡ f i → (k : ℕ) → k < i + 1 → get_or (set ws i w) k d ≡ f k

@@ -1,5 +1,6 @@
 -- Rows from sample to sample.
 use Rattle.std.proofs.Common.{◌≡◌, ℕ, ◌-◌, ◌<◌, ◌≤◌, cond, List, [], ◌∷◌, length, get_or, take, drop, ℤ, pos, Some, Option, sym, ap, ◌∙◌, subst, arith, take_all}
+use Rattle.std.specs.Borrow.{MutBor}
 use Rattle.std.proofs.lemmas.List.{get_or_default}
 use Rattle.model.specs.Trellises.{Diagram, Lawful}
 use Rattle.algebras.specs.Semirings.{Semiring, Laws}
@@ -7,7 +8,7 @@ use Rattle.paths.specs.declared.branch.ListedBranch.{ListedBranch}
 use Rattle.paths.specs.Paths.{permits}
 use Rattle.paths.specs.Listings.{below}
 use Rattle.paths.specs.Sums.{total, path_sum}
-use Rattle.paths.specs.Rows.{Entries, Copied}
+use Rattle.paths.specs.Rows.{Entries, Copied, SameSlice}
 use Rattle.paths.specs.Branches.{branches_of}
 use Rattle.paths.specs.Recursion.{from_state, stepped, after, Advanced, opened}
 use Rattle.paths.specs.FlatRecursion.{with_branches}
@@ -86,6 +87,9 @@ module _ {W : Type 0} (r : Semiring W) (laws : Laws r) (cost : ℤ → ℤ → �
         total_below r laws (λ s. cond (permits end s) (get_or u₂ s r.zero) r.zero) (λ s. cond (permits end s) (after d cost r (opened r start) xs s) r.zero) d.states
         (λ s l. ap (λ y. cond (permits end s) y r.zero) (arrives s r.zero l))
         ∙ sym (answer d cost r laws lawful start end xs)
+
+pub still_same : {W : Type 0} {u v w : MutBor (List W)} → SameSlice u v → SameSlice v w → SameSlice u w
+still_same p q = record { name = q.name ∙ p.name; len = q.len ∙ p.len }
 
 pub cleared : {W : Type 0} (m n : ℕ) (y z : W) (u v : List W) → m ≡ n → y ≡ z → Entries m (λ k. y) u v → Entries n (λ k. z) u v
 cleared m n y z u v e a p = subst (λ j. Entries j (λ k. z) u v) e (subst (λ w. Entries m (λ k. w) u v) a p)

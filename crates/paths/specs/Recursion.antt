@@ -1,5 +1,5 @@
 -- The forward recursion, which the code follows. That it sums over all paths is proved of it.
-use Rattle.std.specs.Prelude.{ℕ, cond, List, [], ◌∷◌, ℤ, Some, None, Option, ◌==◌, slice_index_or, slice_set}
+use Rattle.std.specs.Prelude.{ℕ, cond, List, [], ◌∷◌, ℤ, Some, None, Option, ◌==◌, slice_index_or}
 use Rattle.model.specs.Trellises.{Branch, Diagram}
 use Rattle.algebras.specs.Semirings.{Semiring}
 use Rattle.paths.specs.Paths.{permits}
@@ -11,11 +11,6 @@ use Rattle.paths.specs.Rows.{Entries}
 abbrev pub brings_into : {W : Type 0} → (ℤ → ℤ → ℕ) → Semiring W → ℤ → ℕ → Branch → W → W
 brings_into cost r x t None v = r.zero
 brings_into cost r x t (Some b) v = cond (t == b.0) (r.times v (r.weight (cost b.1 x))) r.zero
-
--- a row, after that was added at the branch's next state
-abbrev pub with_branch : {W : Type 0} → (ℤ → ℤ → ℕ) → Semiring W → ℤ → Branch → W → List W → List W
-with_branch cost r x None v ws = ws
-with_branch cost r x (Some b) v ws = slice_set ws b.0 (r.plus (slice_index_or ws b.0 r.zero) (r.times v (r.weight (cost b.1 x))))
 
 -- what the branches of the state s bring of v into t
 unfoldable pub from_state : {W : Type 0} → Diagram → (ℤ → ℤ → ℕ) → Semiring W → ℤ → ℕ → W → ℕ → W

@@ -14,6 +14,7 @@ use crate::entries::{clear_entries, copy_entries, extend_entries, open_entries, 
 use algebras::algebra::Algebra;
 use model::measure::Measure;
 
+// Its methods hand the slice to functions of entries, which say what happens to it in a plain slice's terms.
 #[derive(Drop)]
 pub(crate) struct Row<'a, W> {
     pub(crate) weights: &'a mut [W],

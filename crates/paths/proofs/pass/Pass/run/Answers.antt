@@ -3,7 +3,7 @@ use borrow.Author.Tests.{ltb-true, ltb-false}
 use Rattle.std.proofs.lemmas.Int.{to_z-of_z}
 use Rattle.paths.specs.Rows.{Entries, Copied}
 use Rattle.paths.specs.Recursion.{stepped, Advanced}
-use Rattle.paths.proofs.Running.{run_more, run_all, run_last}
+use Rattle.paths.proofs.Running.{run_more, run_all, run_last, still_same}
 use Rattle.paths.proofs.pass.Pass.run.Goals as goal
 use Rattle.paths.proofs.pass.Pass.run.Goals.{then-left-lt1, in-len1, else-left-lt1+else-left-lt2-2}
 
@@ -23,8 +23,8 @@ loop-left-preserved g c =
       run_more r g.met.A.Algebra.lawful m d (g.met.T.Trellis.lawful c.args.self.now.trellis.now) c.args.samples.now ys us us₁ us₂ c.in-len2-up.len_at_least c.loop-left.invariant.0
           (subst (λ z. Advanced d m r (z ∷ y ∷ []) us₁ us₂) (to_z-of_z w16 x fx) (subst (λ z. Advanced d m r (to_z w16 (of_z w16 x) ∷ z ∷ []) us₁ us₂) (to_z-of_z w16 y fy) c.step_twice.ensures.first)),
       c.step_twice.ensures.second ∙ c.loop-left.invariant.1,
-      record { name = c.step_twice.ensures.first_slice.name ∙ c.loop-left.invariant.2.name; len = c.step_twice.ensures.first_slice.len ∙ c.loop-left.invariant.2.len },
-      record { name = c.step_twice.ensures.second_slice.name ∙ c.loop-left.invariant.3.name; len = c.step_twice.ensures.second_slice.len ∙ c.loop-left.invariant.3.len },
+      still_same c.loop-left.invariant.2 c.step_twice.ensures.first_slice,
+      still_same c.loop-left.invariant.3 c.step_twice.ensures.second_slice,
     )
 
 pub returns-clause-first : goal.returns-clause-first

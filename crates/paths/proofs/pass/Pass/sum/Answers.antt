@@ -1,11 +1,10 @@
 use Rattle.std.proofs.Common.{◌≡◌, cond, get_or, ap, ◌∙◌, subst}
-use Rattle.model.specs.Trellises.{Diagram}
 use Rattle.paths.specs.Paths.{permits}
 use Rattle.paths.specs.Listings.{below}
 use Rattle.paths.specs.Sums.{total, path_sum}
 use Rattle.paths.specs.Rows.{Entries}
 use Rattle.paths.specs.Recursion.{opened}
-use Rattle.paths.proofs.Running.{left_first, answered}
+use Rattle.paths.proofs.Running.{left_first, answered, still_same}
 use Rattle.paths.proofs.Reordering.{any_order, any_list}
 use Rattle.paths.proofs.pass.Pass.sum.Goals as goal
 
@@ -32,6 +31,6 @@ returns g c =
       any_list = λ ps h. sums ∙ any_list d m r laws c.args.start c.args.end xs lawful ps h;
       first = left_first r laws m d lawful c.args.start xs us us₁ us₂ opens c.run.ensures.first;
       second = c.run.ensures.second;
-      first_slice = record { name = c.run.ensures.first_slice.name ∙ c.open.ensures.slice.name; len = c.run.ensures.first_slice.len ∙ c.open.ensures.slice.len };
+      first_slice = still_same c.open.ensures.slice c.run.ensures.first_slice;
       second_slice = c.run.ensures.second_slice;
     }
