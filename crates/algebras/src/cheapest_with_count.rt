@@ -6,6 +6,7 @@ ghost use Rattle.algebras.specs.CostCountLaws.{cost_count_laws};
 
 use crate::algebra::Algebra;
 use crate::weights::CostCount;
+use std::cmp::Ordering;
 use std::fmt;
 
 impl CostCount {
@@ -65,12 +66,10 @@ impl Algebra for CheapestWithCount {
     }
 
     fn plus(&self, a: CostCount, b: CostCount) -> CostCount {
-        if a.cost < b.cost {
-            a
-        } else if b.cost < a.cost {
-            b
-        } else {
-            counted(a.cost, a.count.wrapping_add(b.count))
+        match a.cost.cmp(&b.cost) {
+            Ordering::Less => a,
+            Ordering::Greater => b,
+            Ordering::Equal => counted(a.cost, a.count.wrapping_add(b.count)),
         }
     }
 
