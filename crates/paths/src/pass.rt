@@ -53,12 +53,7 @@ impl<T: Trellis, M: Measure, A: Algebra> Pass<'_, T, M, A> {
     }
 
     // All samples: by twos, then the last one, if one is left. The second row is cleared.
-    fn run(
-        &self,
-        samples: &[i16],
-        first: &mut Row<'_, A::Weight>,
-        second: &mut Row<'_, A::Weight>,
-    )
+    fn run(&self, samples: &[i16], first: &mut Row<'_, A::Weight>, second: &mut Row<'_, A::Weight>)
         requires first { (T.Trellis.meaning self.now.trellis.now).states ≤ length first.old.weights.now }
         requires second { (T.Trellis.meaning self.now.trellis.now).states ≤ length second.old.weights.now }
         ensures first { Advanced (T.Trellis.meaning self.now.trellis.now) (M.Measure.costs self.now.measure.now) A.Algebra.semiring samples.now first.old.weights.now first.new.weights.now }

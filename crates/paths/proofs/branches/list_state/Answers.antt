@@ -5,18 +5,12 @@ use Rattle.paths.proofs.Rowing.{stays_more}
 use Rattle.paths.proofs.Branching.{listed_more, state_all}
 use Rattle.paths.proofs.branches.list_state.Goals as goal
 
-pub list_branch-requires : goal.list_branch-requires
-list_branch-requires g c =
+pub list_branch-requires-clause-next : goal.list_branch-requires-clause-next
+list_branch-requires-clause-next g c =
     let d = g.T.Trellis.meaning c.args.trellis.now in
     let lawful = g.met.T.Trellis.lawful c.args.trellis.now in
     let few : d.states ≤ most_states = lawful.few_states in
-    let l : d.letters ≤ 4 = lawful.few_letters in
-    record {
-      room = omega (arith, c.loop-letter.invariant.1);
-      state = omega (arith, c.requires.state);
-      letter = omega arith;
-      next = subst (StaysIn most_states) (sym c.branch-trellis.ensures) (stays_more d.states most_states (d.branch c.args.state c.loop-letter.letter) few (lawful.stays c.args.state c.loop-letter.letter));
-    }
+    subst (StaysIn most_states) (sym c.branch-trellis.ensures) (stays_more d.states most_states (d.branch c.args.state c.loop-letter.letter) few (lawful.stays c.args.state c.loop-letter.letter))
 
 pub loop-letter-preserved : goal.loop-letter-preserved
 loop-letter-preserved g c =

@@ -40,18 +40,18 @@ returns-clause-first g c =
     let ys = c.loop-left.left.now in
     elim c.if-left-lt1.branch [
       | then-left-lt1 w ↦
-        let none : length ys ≡ 0 = omega (arith, ltb-true) in
-        let le : d.states ≤ length us₁ = omega (arith, c.loop-left.invariant.2.len, c.requires.first) in
-        subst (λ v. Advanced d m r xs us v.weights.now) (sym w.first-is) (run_all r laws m d lawful xs ys us us₁ none le c.loop-left.invariant.0)
+          let none : length ys ≡ 0 = omega (arith, ltb-true) in
+          let le : d.states ≤ length us₁ = omega (arith, c.loop-left.invariant.2.len, c.requires.first) in
+          subst (λ v. Advanced d m r xs us v.weights.now) (sym w.first-is) (run_all r laws m d lawful xs ys us us₁ none le c.loop-left.invariant.0)
       | in-len1 w ↦
-        let one : length ys ≡ 1 = omega (arith, w.in-len1.len_at_least, w.in-len1.len_below) in
-        let x = get_or ys 0 (pos 0) in
-        let f : SFits w16 x = search rules in
-        let vs = c.loop-left.second.weights.now in
-        let vs₁ = w.step.new.second.weights.now in
-        let us₂ = w.copy.new.self.weights.now in
-        subst (λ v. Advanced d m r xs us v.weights.now) (sym w.first-is) (run_last r laws m d lawful xs ys us us₁ us₂ vs₁ vs one c.loop-left.invariant.0
-        (subst (λ z. Entries d.states (stepped d m r z (λ s. get_or us₁ s r.zero)) vs vs₁) (to_z-of_z w16 x f) w.step.ensures.second)
-        (subst (λ j. Copied j vs₁ us₁ us₂) c.states-n.ensures w.copy.ensures.after))
+          let one : length ys ≡ 1 = omega (arith, w.in-len1.len_at_least, w.in-len1.len_below) in
+          let x = get_or ys 0 (pos 0) in
+          let f : SFits w16 x = search rules in
+          let vs = c.loop-left.second.weights.now in
+          let vs₁ = w.step.new.second.weights.now in
+          let us₂ = w.copy.new.self.weights.now in
+          subst (λ v. Advanced d m r xs us v.weights.now) (sym w.first-is) (run_last r laws m d lawful xs ys us us₁ us₂ vs₁ vs one c.loop-left.invariant.0
+          (subst (λ z. Entries d.states (stepped d m r z (λ s. get_or us₁ s r.zero)) vs vs₁) (to_z-of_z w16 x f) w.step.ensures.second)
+          (subst (λ j. Copied j vs₁ us₁ us₂) c.states-n.ensures w.copy.ensures.after))
       | else-left-lt1+else-left-lt2-2 w ↦ absurd (omega (arith, ltb-true, ltb-false, c.in_default.len_below))
     ]
