@@ -1,11 +1,13 @@
 // Cheapest with count: what does the cheapest path cost, and how many paths cost that?
-ghost use Rattle.std.specs.Prelude.{◌≡◌};
+ghost use Rattle.std.specs.Prelude.{◌≡◌, ◌++◌, Some, decimal, codes};
 ghost use Rattle.algebras.specs.Numbers.{count_at};
 ghost use Rattle.algebras.specs.CostCounts.{cost_count, cheapest_with_count};
 ghost use Rattle.algebras.specs.CostCountLaws.{cost_count_laws};
 
 use crate::algebra::Algebra;
 use crate::weights::CostCount;
+use std::cmp::Ordering;
+use std::fmt;
 
 impl CostCount {
     pub fn cost(self) -> u64
@@ -18,6 +20,14 @@ impl CostCount {
         ensures { result ≡ self.count }
     {
         self.count
+    }
+}
+
+impl fmt::Display for CostCount {
+    ghost output = { λ w. Some (decimal w.cost ++ codes " " ++ decimal w.count) };
+
+    fn fmt<W: fmt::Write>(&self, f: &mut fmt::Formatter<W>) -> fmt::Result {
+        write!(f, "{} {}", self.cost, self.count)
     }
 }
 
@@ -56,12 +66,10 @@ impl Algebra for CheapestWithCount {
     }
 
     fn plus(&self, a: CostCount, b: CostCount) -> CostCount {
-        if a.cost < b.cost {
-            a
-        } else if b.cost < a.cost {
-            b
-        } else {
-            counted(a.cost, a.count.wrapping_add(b.count))
+        match a.cost.cmp(&b.cost) {
+            Ordering::Less => a,
+            Ordering::Greater => b,
+            Ordering::Equal => counted(a.cost, a.count.wrapping_add(b.count)),
         }
     }
 

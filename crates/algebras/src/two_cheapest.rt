@@ -1,10 +1,11 @@
 // Two cheapest: what do the two cheapest paths cost?
-ghost use Rattle.std.specs.Prelude.{◌≡◌, ◌≤◌};
+ghost use Rattle.std.specs.Prelude.{◌≡◌, ◌≤◌, ◌++◌, Some, decimal, codes};
 ghost use Rattle.algebras.specs.TwoCosts.{pair, two_cheapest};
 ghost use Rattle.algebras.specs.TwoLaws.{two_laws};
 
 use crate::algebra::Algebra;
 use crate::weights::TwoCosts;
+use std::fmt;
 
 impl TwoCosts {
     pub fn first(self) -> u64
@@ -17,6 +18,14 @@ impl TwoCosts {
         ensures { result ≡ self.second }
     {
         self.second
+    }
+}
+
+impl fmt::Display for TwoCosts {
+    ghost output = { λ w. Some (decimal w.first ++ codes " " ++ decimal w.second) };
+
+    fn fmt<W: fmt::Write>(&self, f: &mut fmt::Formatter<W>) -> fmt::Result {
+        write!(f, "{} {}", self.first, self.second)
     }
 }
 

@@ -1,5 +1,6 @@
-// One run of the forward pass for each algebra, and a line that says what came of it.
-ghost use Rattle.std.specs.Prelude.{◌≡◌};
+// One run of the forward pass in each algebra, and a line that says what came of it.
+ghost use Rattle.std.specs.Prelude.{◌≡◌, ◌*◌, ◌^◌, ◌<◌};
+ghost use Rattle.std.specs.Mem.{type_size};
 ghost use Rattle.std.specs.Result.{result_ok};
 ghost use Rattle.model.specs.Refusals.{answer};
 ghost use Rattle.paths.specs.Sums.{path_sum};
@@ -9,7 +10,6 @@ ghost use Rattle.path_trials.specs.Distances.{distance};
 
 use crate::distance::Apart;
 use crate::matrices::Matrices;
-use crate::matrix::Matrix;
 use crate::tangle::Tangle;
 use algebras::algebra::Algebra;
 use algebras::boolean::Boolean;
@@ -20,6 +20,7 @@ use algebras::two_cheapest::TwoCheapest;
 use model::measure::Measure;
 use model::refusal::Refusal;
 use paths::forward::forward;
+use std::fmt::Display;
 use std::io;
 
 // Samples, a start and an end, under a name.
@@ -53,62 +54,23 @@ fn run<A: Algebra>(
     )
 }
 
-fn try_boolean(rt: &HostRuntime, trial: Trial<'_>) -> io::Result<()> {
+// A trial in an algebra, under its word; the rows hold ones before, and fit in memory.
+fn try_sum<A: Algebra>(
+    rt: &HostRuntime,
+    trial: Trial<'_>,
+    algebra: &A,
+    word: &str,
+) -> io::Result<()>
+where
+    A::Weight: Display,
+    requires { 4 * type_size A.Weight.row < 2 ^ 63 }
+{
     let name = trial.name;
-    if let Ok(sum) = run(trial, &Boolean, &mut [true; 4], &mut [true; 4]) {
-        println!(rt; "{name}: boolean {sum}")?;
+    let one = algebra.one();
+    if let Ok(sum) = run(trial, algebra, &mut [one; 4], &mut [one; 4]) {
+        println!(rt; "{name}: {word} {sum}")?;
     }
     Ok(())
-}
-
-fn try_counting(rt: &HostRuntime, trial: Trial<'_>) -> io::Result<()> {
-    let name = trial.name;
-    let one = Counting.one();
-    if let Ok(sum) = run(trial, &Counting, &mut [one; 4], &mut [one; 4]) {
-        let count = sum.value();
-        println!(rt; "{name}: counting {count}")?;
-    }
-    Ok(())
-}
-
-fn try_cheapest(rt: &HostRuntime, trial: Trial<'_>) -> io::Result<()> {
-    let name = trial.name;
-    let one = Cheapest.one();
-    if let Ok(sum) = run(trial, &Cheapest, &mut [one; 4], &mut [one; 4]) {
-        let cost = sum.value();
-        println!(rt; "{name}: cheapest {cost}")?;
-    }
-    Ok(())
-}
-
-fn try_cheapest_with_count(rt: &HostRuntime, trial: Trial<'_>) -> io::Result<()> {
-    let name = trial.name;
-    let one = CheapestWithCount.one();
-    if let Ok(sum) = run(trial, &CheapestWithCount, &mut [one; 4], &mut [one; 4]) {
-        let cost = sum.cost();
-        let count = sum.count();
-        println!(rt; "{name}: cheapest with count {cost} {count}")?;
-    }
-    Ok(())
-}
-
-fn try_two_cheapest(rt: &HostRuntime, trial: Trial<'_>) -> io::Result<()> {
-    let name = trial.name;
-    let one = TwoCheapest.one();
-    if let Ok(sum) = run(trial, &TwoCheapest, &mut [one; 4], &mut [one; 4]) {
-        let first = sum.first();
-        let second = sum.second();
-        println!(rt; "{name}: two cheapest {first} {second}")?;
-    }
-    Ok(())
-}
-
-fn show_matrix(rt: &HostRuntime, name: &str, what: &str, m: Matrix) -> io::Result<()> {
-    let a = m.a;
-    let b = m.b;
-    let c = m.c;
-    let d = m.d;
-    println!(rt; "{name}: {what} {a} {b} {c} {d}")
 }
 
 // The rows are one entry longer than the states are many, and hold ones before.
@@ -117,12 +79,12 @@ fn try_matrices(rt: &HostRuntime, trial: Trial<'_>) -> io::Result<()> {
     let mut first = [Matrices.one(); 5];
     let mut second = [Matrices.one(); 5];
     if let Ok(sum) = run(trial, &Matrices, &mut first, &mut second) {
-        show_matrix(rt, name, "matrices", sum)?;
+        println!(rt; "{name}: matrices {sum}")?;
         for entry in first {
-            show_matrix(rt, name, "first row", entry)?;
+            println!(rt; "{name}: first row {entry}")?;
         }
         for entry in second {
-            show_matrix(rt, name, "second row", entry)?;
+            println!(rt; "{name}: second row {entry}")?;
         }
     }
     Ok(())
@@ -130,11 +92,11 @@ fn try_matrices(rt: &HostRuntime, trial: Trial<'_>) -> io::Result<()> {
 
 // A trial in all algebras.
 pub(crate) fn try_all(rt: &HostRuntime, trial: Trial<'_>) -> io::Result<()> {
-    try_boolean(rt, trial)?;
-    try_counting(rt, trial)?;
-    try_cheapest(rt, trial)?;
-    try_cheapest_with_count(rt, trial)?;
-    try_two_cheapest(rt, trial)?;
+    try_sum(rt, trial, &Boolean, "boolean")?;
+    try_sum(rt, trial, &Counting, "counting")?;
+    try_sum(rt, trial, &Cheapest, "cheapest")?;
+    try_sum(rt, trial, &CheapestWithCount, "cheapest with count")?;
+    try_sum(rt, trial, &TwoCheapest, "two cheapest")?;
     try_matrices(rt, trial)
 }
 
@@ -142,12 +104,10 @@ pub(crate) fn try_all(rt: &HostRuntime, trial: Trial<'_>) -> io::Result<()> {
 pub(crate) fn try_short(rt: &HostRuntime, trial: Trial<'_>) -> io::Result<()> {
     let name = trial.name;
     if let Err(refusal) = run(trial, &Boolean, &mut [true; 3], &mut [true; 4]) {
-        let number = refusal.number();
-        println!(rt; "{name}: first row refused {number}")?;
+        println!(rt; "{name}: first row {refusal}")?;
     }
     if let Err(refusal) = run(trial, &Boolean, &mut [true; 4], &mut [true; 3]) {
-        let number = refusal.number();
-        println!(rt; "{name}: second row refused {number}")?;
+        println!(rt; "{name}: second row {refusal}")?;
     }
     Ok(())
 }

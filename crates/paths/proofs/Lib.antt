@@ -2,9 +2,7 @@ pub mod Totals
 pub mod Summing
 pub mod Branching
 pub mod Rowing
-pub mod FlatRowing
 pub mod Running
-pub mod FlatRunning
 pub mod Ordering
 pub mod Listing
 pub mod Reordering

@@ -1,10 +1,11 @@
 -- The branches of a trellis in one list.
-use Rattle.std.specs.Prelude.{ℕ, ◌+◌, ◌*◌, ◌<◌, List, [], ◌∷◌, take, Some, None}
+use Rattle.std.specs.Prelude.{ℕ, ◌+◌, ◌*◌, ◌<◌, List, [], ◌∷◌, Some, None}
 use Rattle.std.specs.List.{flat_map}
+use Rattle.arrays.specs.Lists.{list_items}
+use Rattle.arrays.specs.declared.list.FixedList.{FixedList}
 use Rattle.model.specs.Trellises.{Branch, Diagram, most_letters}
 use Rattle.paths.specs.Listings.{below}
 use Rattle.paths.specs.declared.branch.ListedBranch.{ListedBranch}
-use Rattle.paths.specs.declared.branch.BranchList.{BranchList}
 
 -- the branch of the state s and the letter a as an entry, if there is one
 abbrev pub listed : ℕ → ℕ → Branch → List ListedBranch
@@ -20,8 +21,8 @@ unfoldable pub branches_of : Diagram → List ListedBranch
 branches_of d = flat_map (branches_from d) (below d.states)
 
 -- what the code's list holds
-abbrev pub branches_in : BranchList → List ListedBranch
-branches_in l = take l.count l.branches
+abbrev pub branches_in : FixedList ListedBranch 256 → List ListedBranch
+branches_in l = list_items l
 
 -- a branch from one of m states to one of n
 abbrev pub Within : ℕ → ℕ → ListedBranch → Type 0

@@ -1,4 +1,5 @@
 -- Rows of weights, one for each state, and what the forward pass leaves in them.
+use Rattle.std.specs.Borrow.{MutBor}
 use Rattle.std.specs.Prelude.{◌≡◌, ℕ, ◌<◌, Bool, cond, ◌&&◌, List, length, drop, ℤ, Some, None, MatchBool, Option, nat_le, slice_index_or}
 use Rattle.model.specs.declared.refusal.Refusal.TheVariants.{RowShort}
 use Rattle.model.specs.Refusals.{refusal_number}
@@ -15,6 +16,11 @@ pub record Entries {W : Type 0} (n : ℕ) (f : ℕ → W) (old new : List W) : T
 pub record Copied {W : Type 0} (n : ℕ) (from old new : List W) : Type 0 where
   pub entry : (s : ℕ) (d : W) → s < n → slice_index_or new s d ≡ slice_index_or from s d
   pub rest : drop n new ≡ drop n old
+
+-- a row still has the slice that it was lent
+pub record SameSlice {W : Type 0} (old new : MutBor (List W)) : Type 0 where
+  pub name : new.ghost_name ≡ old.ghost_name
+  pub len : length new.now ≡ length old.now
 
 -- both rows have an entry for each state
 abbrev pub long_enough : {W : Type 0} → Diagram → List W → List W → Bool

@@ -6,8 +6,5 @@ ghost use Rattle.paths.specs.Paths.{permits};
 pub fn is_permitted(anchor: Option<usize>, state: usize) -> bool
     ensures { result ≡ permits anchor state }
 {
-    match anchor {
-        None => true,
-        Some(permitted) => state == permitted,
-    }
+    anchor.is_none_or(|permitted| state == permitted)
 }

@@ -1,5 +1,5 @@
 // A branch as an entry of a list, and the list of all branches of a trellis.
-ghost use Rattle.std.specs.Prelude.{◌≤◌};
+use arrays::list::FixedList;
 
 // The state before it, the next state, both its letter and the state before it as state x 4 + letter, and its label.
 #[derive(Clone, Copy)]
@@ -10,9 +10,5 @@ pub struct ListedBranch {
     pub label: i16,
 }
 
-#[derive(Drop)]
-pub struct BranchList {
-    pub(crate) branches: [ListedBranch; 256],
-    pub(crate) count: usize,
-    ghost fits: { count ≤ 256 },
-}
+// 64 states with 4 letters each have at most 256 branches.
+pub type BranchList = FixedList<ListedBranch, 256>;

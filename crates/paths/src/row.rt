@@ -1,20 +1,20 @@
 // A row of weights, one for each state, in a slice that the caller lends.
-ghost use Rattle.std.specs.Prelude.{◌≡◌, ◌<◌, ◌≤◌, length, get_or, if◌then◌else◌, slice_index_or, slice_set};
+ghost use Rattle.std.specs.Prelude.{◌≡◌, ◌<◌, ◌≤◌, length, if◌then◌else◌, slice_index_or};
 ghost use Rattle.std.specs.List.{AllByRecursion};
 ghost use Rattle.paths.specs.Paths.{permits};
 ghost use Rattle.paths.specs.Listings.{below};
 ghost use Rattle.paths.specs.Sums.{total};
-ghost use Rattle.paths.specs.Rows.{Entries, Copied};
+ghost use Rattle.paths.specs.Rows.{Entries, Copied, SameSlice};
 ghost use Rattle.paths.specs.Branches.{Within};
 ghost use Rattle.paths.specs.Recursion.{opened};
 ghost use Rattle.paths.specs.FlatRecursion.{with_branches};
 
 use crate::branch::ListedBranch;
-use crate::entries::{add_at, clear_entries, copy_entries, entry_at, open_entries, total_entries};
-use crate::flat_entries::extend_entries;
+use crate::entries::{clear_entries, copy_entries, extend_entries, open_entries, total_entries};
 use algebras::algebra::Algebra;
 use model::measure::Measure;
 
+// Its methods hand the slice to functions of entries, which say what happens to it in a plain slice's terms.
 #[derive(Drop)]
 pub(crate) struct Row<'a, W> {
     pub(crate) weights: &'a mut [W],
@@ -25,8 +25,7 @@ impl<'a, W: Copy> Row<'a, W> {
     pub(crate) fn clear(&mut self, n: usize, zero: W)
         requires { n ≤ length self.old.weights.now }
         ensures after { Entries n (λ _. zero) self.old.weights.now self.new.weights.now }
-        ensures lent { self.new.weights.ghost_name ≡ self.old.weights.ghost_name }
-        ensures len { length self.new.weights.now ≡ length self.old.weights.now }
+        ensures slice { SameSlice self.old.weights self.new.weights }
     {
         clear_entries(self.weights, n, zero);
     }
@@ -36,8 +35,7 @@ impl<'a, W: Copy> Row<'a, W> {
         requires row { n ≤ length self.old.weights.now }
         requires from { n ≤ length from.now.weights.now }
         ensures after { Copied n from.now.weights.now self.old.weights.now self.new.weights.now }
-        ensures lent { self.new.weights.ghost_name ≡ self.old.weights.ghost_name }
-        ensures len { length self.new.weights.now ≡ length self.old.weights.now }
+        ensures slice { SameSlice self.old.weights self.new.weights }
     {
         copy_entries(self.weights, from.weights, n);
     }
@@ -51,27 +49,9 @@ impl<'a, W: Copy> Row<'a, W> {
     )
         requires { n ≤ length self.old.weights.now }
         ensures after { Entries n (opened A.Algebra.semiring start) self.old.weights.now self.new.weights.now }
-        ensures lent { self.new.weights.ghost_name ≡ self.old.weights.ghost_name }
-        ensures len { length self.new.weights.now ≡ length self.old.weights.now }
+        ensures slice { SameSlice self.old.weights self.new.weights }
     {
         open_entries(algebra, self.weights, n, start);
-    }
-
-    pub(crate) fn get(&self, state: usize) -> W
-        requires { state < length self.now.weights.now }
-        ensures { result ≡ slice_index_or self.now.weights.now state result }
-    {
-        entry_at(self.weights, state)
-    }
-
-    // Adds a weight at a state.
-    pub(crate) fn add<A: Algebra<Weight = W>>(&mut self, algebra: &A, state: usize, weight: W)
-        requires { state < length self.old.weights.now }
-        ensures after { self.new.weights.now ≡ slice_set self.old.weights.now state (A.Algebra.semiring.plus (slice_index_or self.old.weights.now state A.Algebra.semiring.zero) weight) }
-        ensures lent { self.new.weights.ghost_name ≡ self.old.weights.ghost_name }
-        ensures len { length self.new.weights.now ≡ length self.old.weights.now }
-    {
-        add_at(algebra, self.weights, state, weight);
     }
 
     // Adds what the branches bring of the weights in another row, on one sample.
@@ -84,9 +64,8 @@ impl<'a, W: Copy> Row<'a, W> {
         from: &Row<'_, W>,
     )
         requires { AllByRecursion (Within (length from.now.weights.now) (length self.old.weights.now)) branches.now }
-        ensures after { self.new.weights.now ≡ with_branches (M.Measure.costs measure.now) A.Algebra.semiring sample (λ s. get_or from.now.weights.now s A.Algebra.semiring.zero) self.old.weights.now branches.now }
-        ensures lent { self.new.weights.ghost_name ≡ self.old.weights.ghost_name }
-        ensures len { length self.new.weights.now ≡ length self.old.weights.now }
+        ensures after { self.new.weights.now ≡ with_branches (M.Measure.costs measure.now) A.Algebra.semiring sample (λ s. slice_index_or from.now.weights.now s A.Algebra.semiring.zero) self.old.weights.now branches.now }
+        ensures slice { SameSlice self.old.weights self.new.weights }
     {
         extend_entries(
             branches,

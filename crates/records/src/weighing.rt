@@ -12,7 +12,7 @@ use algebras::algebra::Algebra;
 use model::measure::Measure;
 use model::refusal::Refusal;
 use model::trellis::Trellis;
-use paths::flat_forward::forward;
+use paths::forward::forward;
 
 impl<T: Trellis, M: Measure> Settled<T, M> {
     // The sum of the weights of all admissible paths. The first row then has, for each state, the sum over the paths

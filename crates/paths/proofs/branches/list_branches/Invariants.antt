@@ -1,10 +1,9 @@
-use Rattle.std.proofs.Common.{◌≡◌, ◌*◌, ◌≤◌, length, take}
+use Rattle.std.proofs.Common.{◌≡◌, ◌*◌, ◌≤◌, length}
 use Rattle.std.specs.List.{flat_map}
 use Rattle.paths.specs.Listings.{below}
-use Rattle.paths.specs.Branches.{branches_from}
+use Rattle.paths.specs.Branches.{branches_from, branches_in}
 use Rattle.paths.proofs.branches.list_branches.Given as goal
 
 abbrev pub invariant-loop-state : goal.invariant-loop-state
 invariant-loop-state g l =
-    let d = g.T.Trellis.meaning l.trellis in
-    (take l.count l.branches ≡ flat_map (branches_from d) (below l.state)) × (l.count ≤ l.state * 4) × (length l.branches ≡ 256)
+    (branches_in l.list ≡ flat_map (branches_from (g.T.Trellis.meaning l.trellis)) (below l.state)) × (length (branches_in l.list) ≤ l.state * 4)

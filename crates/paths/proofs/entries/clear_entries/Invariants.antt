@@ -1,5 +1,5 @@
-use Rattle.std.proofs.Common.{◌≡◌, ℕ, ◌<◌, get_or, drop}
+use Rattle.std.proofs.Common.{◌≡◌, ℕ, ◌<◌, get_or}
 use Rattle.paths.proofs.entries.clear_entries.Given as goal
 
-abbrev pub invariant-loop-s : goal.invariant-loop-s
-invariant-loop-s g l = ((k : ℕ) (d : _) → k < l.s → get_or l.row k d ≡ l.zero) × (drop l.n l.row ≡ drop l.n l.initial.row)
+abbrev pub invariant-loop-entry : goal.invariant-loop-entry
+invariant-loop-entry g l = (k : ℕ) (d : _) → k < l.entry-index → get_or l.entry-items k d ≡ l.zero

@@ -1,6 +1,6 @@
-use Rattle.std.proofs.Common.{◌≡◌, ℕ, ◌<◌, get_or, drop}
+use Rattle.std.proofs.Common.{◌≡◌, ℕ, ◌<◌, get_or}
 use Rattle.paths.specs.Recursion.{opened}
 use Rattle.paths.proofs.entries.open_entries.Given as goal
 
 abbrev pub invariant-loop-s : goal.invariant-loop-s
-invariant-loop-s g l = ((k : ℕ) (d : _) → k < l.s → get_or l.row k d ≡ opened g.A.Algebra.semiring l.start k) × (drop l.n l.row ≡ drop l.n l.initial.row)
+invariant-loop-s g l = (k : ℕ) (d : _) → k < l.s → get_or l.entry-items k d ≡ opened g.A.Algebra.semiring l.start k
