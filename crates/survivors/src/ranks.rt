@@ -104,7 +104,7 @@ pub(crate) fn advance_ranks<M: Measure>(
     requires zeros { Zeros bytes.old }
     ensures { Advanced (M.Measure.costs measure.now) sample row.old branches.now row.new bytes.new }
 {
-    let from = *row;
-    *row = *clear;
-    extend(branches, measure, sample, &from, row, bytes);
+    let mut next = *clear;
+    extend(branches, measure, sample, row, &mut next, bytes);
+    *row = next;
 }
