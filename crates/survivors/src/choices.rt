@@ -76,6 +76,7 @@ fn rank_all<T: Trellis, M: Measure>(
     let branches = list.as_slice();
     let clear = [NOWHERE; MOST_STATES];
     let mut row = open_ranks(start);
+    // By place: of the parts that chunks_exact_mut hands out a proof knows afterwards only how long the whole is.
     for (k, sample) in samples.iter().enumerate() {
         let from = place_of(k, 0);
         advance_ranks(

@@ -3,10 +3,10 @@ ghost use Rattle.std.specs.Prelude.{◌≡◌, ◌/◌, ◌%◌, ◌<◌};
 ghost use Rattle.model.specs.Trellises.{most_states, most_letters};
 ghost use Rattle.survivors.specs.Choices.{most_samples, place};
 
-// The most samples that a table has bytes for, how many bytes each has, and how many bytes that is.
-pub const MOST_SAMPLES: usize = 512;
-
+// How many bytes each sample has in a table, the most samples that it has bytes for, and how many bytes that is.
 pub use model::trellis::MOST_STATES;
+
+pub const MOST_SAMPLES: usize = 512;
 
 pub const TABLE_SIZE: usize = MOST_SAMPLES * MOST_STATES;
 
@@ -14,7 +14,7 @@ pub const TABLE_SIZE: usize = MOST_SAMPLES * MOST_STATES;
 pub(crate) fn state_before(byte: u8) -> usize
     ensures { result ≡ byte / most_letters }
 {
-    (byte / 4) as usize
+    usize::from(byte / 4)
 }
 
 // The letter of the branch that a byte stands for.

@@ -1,4 +1,4 @@
-// One step of the survivor pass that also compares the paths to each state.
+// One step of the survivor pass: from the ranks of the states to those one sample later, with a byte for each state.
 ghost use Rattle.std.specs.Prelude.{◌≡◌, ◌+◌, ◌^◌, ◌<◌, ◌≤◌, length, nat_lt, replicate, if◌then◌else◌, slice_index_or, slice_set};
 ghost use Rattle.std.specs.List.{AllByRecursion};
 ghost use Rattle.model.specs.Trellises.{most_states};
@@ -43,29 +43,29 @@ pub(crate) fn join(held: &mut Rank, from: Rank, cost: u32) -> bool
     false
 }
 
-// Joins to the rank of a state what a branch brings from another rank, and puts down its byte where that is the cheaper.
+// Joins to the rank of a state what a branch into it brings from a rank, and puts down its byte where that is the cheaper.
 fn put(
     row: &mut [Rank; MOST_STATES],
     bytes: &mut [u8],
-    next: usize,
+    branch: &ListedBranch,
     from: Rank,
     cost: u32,
-    byte: u8,
 )
-    requires row { next < length row.old }
-    requires bytes { next < length bytes.old }
-    requires held { Sound (2 ^ 62) (slice_index_or row.old next past) }
+    requires row { branch.now.next < length row.old }
+    requires bytes { branch.now.next < length bytes.old }
+    requires held { Sound (2 ^ 62) (slice_index_or row.old branch.now.next past) }
     requires from { Sound (2 ^ 61) from }
-    ensures row { row.new ≡ slice_set row.old next (joined_rank (slice_index_or row.old next past) from cost) }
-    ensures bytes { bytes.new ≡ (if nat_lt (from.cost + cost) (slice_index_or row.old next past).cost then slice_set bytes.old next byte else bytes.old) }
+    ensures row { row.new ≡ slice_set row.old branch.now.next (joined_rank (slice_index_or row.old branch.now.next past) from cost) }
+    ensures bytes { bytes.new ≡ (if nat_lt (from.cost + cost) (slice_index_or row.old branch.now.next past).cost then slice_set bytes.old branch.now.next branch.now.byte else bytes.old) }
 {
+    let next = branch.next as usize;
     if join(&mut row[next], from, cost) {
-        bytes[next] = byte;
+        bytes[next] = branch.byte;
     }
 }
 
 // What the branches bring from the states that were reached, with the byte of the cheapest branch; among equals the
-// first stays.
+// first stays. The bound on the costs of a row grows with each sample, so it is asked for, and is no invariant of a type.
 fn extend<M: Measure>(
     branches: &[ListedBranch],
     measure: &M,
@@ -83,8 +83,7 @@ fn extend<M: Measure>(
 {
     for branch in branches {
         let cost = measure.cost(branch.label, sample);
-        let rank = from[branch.from as usize];
-        put(row, bytes, branch.next as usize, rank, cost, branch.byte);
+        put(row, bytes, branch, from[branch.from as usize], cost);
     }
 }
 
