@@ -2,7 +2,7 @@
 use Rattle.std.proofs.Common.{◌≡◌, ℕ, zero, suc, ◌+◌, ◌-◌, ◌*◌, ◌/◌, ◌%◌, ◌<◌, ◌≤◌, Bool, true, false, cond, eqb, ltb, List, [], ◌∷◌, ◌++◌, length, get_or, take, set, ℤ, Some, None, fold, Option, sym, refl, ap, ◌∙◌, subst, inl, inr, arith, get_or-set_other, get_or-set_same, ltb-true, le-ltb, lt-ltb, eqb-true}
 use borrow.Author.Tests.{eqb-false}
 use Rattle.std.proofs.lemmas.List.{flat_map_more}
-use Rattle.std.proofs.lemmas.List.Sums.{fold_more}
+use Rattle.std.proofs.lemmas.List.Sums.{fold_more, fold-append}
 use Rattle.std.proofs.lemmas.Bool.{cases_lt}
 use Rattle.std.specs.List.{flat_map}
 use Rattle.model.specs.Trellises.{Branch, Diagram, Lawful}
@@ -124,25 +124,6 @@ module _ (cost : ℤ → ℤ → ℕ) (x : ℤ) (from : List ℕ) (n : ℕ) (b :
     pub kept_branch : KeptNumbers n g row' bytes'
     kept_branch = record { cost = λ k l. at_cost k l (eqb k t) refl; byte = λ k. at_byte k (eqb k t) refl }
 
-  -- what holds of both numbers holds of the one that is kept
-  either : (P : ℕ → Type 0) → (u + w < v → P (u + w)) → P v → P (cond (ltb (u + w) v) (u + w) v)
-  either P p q = go (ltb (u + w) v) refl
-    where
-      go : (s : Bool) → ltb (u + w) v ≡ s → P (cond s (u + w) v)
-      go true e = p (ltb-true (u + w) v e)
-      go false e = q
-
-  -- what holds of each number of the row, and of the new one
-  set_all : (P : ℕ → Type 0) (c : ℕ) → P c → ((k : ℕ) → k < n → P (get_or row k 0)) → (k : ℕ) → k < n → P (get_or (set row t c) k 0)
-  set_all P c p all k l = go (eqb k t) refl
-    where
-      go : (s : Bool) → eqb k t ≡ s → P (get_or (set row t c) k 0)
-      go true e = subst P (sym (ap (λ j. get_or (set row t c) j 0) (eqb-true k t e) ∙ get_or-set_same row t c 0 (omega arith))) p
-      go false e = subst P (sym (get_or-set_other row t k c 0 (eqb-false k t e))) (all k l)
-
-  pub capped_branch : Capped n row'
-  capped_branch = set_all (λ z. z ≤ unreached) _ (either (λ z. z ≤ unreached) (λ l. let c : v ≤ unreached = cap t inside in omega arith) (cap t inside)) cap
-
 -- before any branch
 pub kept_none : (cost : ℤ → ℤ → ℕ) (x : ℤ) (from row bytes : List ℕ) (n : ℕ) → ((k : ℕ) → k < n → get_or row k 0 ≡ unreached) → ((k : ℕ) → get_or bytes k 0 ≡ 0) → KeptNumbers n (best_of cost x (reached_at from) []) row bytes
 unfolding best_of
@@ -157,10 +138,6 @@ best_more cost x row bs i b h k = sym (fold_more (λ o e. pick o e.byte (offered
 
 pub kept_same : (n : ℕ) (f g : ℕ → Option (ℕ × ℕ)) (row bytes : List ℕ) → ((k : ℕ) → f k ≡ g k) → KeptNumbers n f row bytes → KeptNumbers n g row bytes
 kept_same n f g row bytes h kept = record { cost = λ k l. kept.cost k l ∙ ap cost_in (h k); byte = λ k. kept.byte k ∙ ap byte_in (h k) }
-
-folded_append : {A B : Type 0} (f : B → A → B) (a : B) (xs ys : List A) → fold f a (xs ++ ys) ≡ fold f (fold f a xs) ys
-folded_append f a [] ys = refl
-folded_append f a (x ∷ xs) ys = folded_append f (f a x) xs ys
 
 -- a scan over numbers that have no cost
 scan_idle : (f : ℕ → Option ℕ) (i d : ℕ) → ((j : ℕ) → i ≤ j → j < i + d → f j ≡ None) → scan f i ≡ scan f (i + d)
@@ -192,7 +169,7 @@ module _ (d : Diagram) (lawful : Lawful d) (cost : ℤ → ℤ → ℕ) (x : ℤ
   letters_more s (suc a) h =
       let h4 : a < 4 = omega arith in
       ap (fold more (scan f (s * 4))) (sym (flat_map_more (λ l. listed s l (d.branch s l)) [] (below a) a))
-      ∙ folded_append more (scan f (s * 4)) (flat_map (λ l. listed s l (d.branch s l)) (below a)) (listed s a (d.branch s a))
+      ∙ fold-append more (scan f (s * 4)) (flat_map (λ l. listed s l (d.branch s l)) (below a)) (listed s a (d.branch s a))
       ∙ ap (λ o. fold more o (listed s a (d.branch s a))) (letters_more s a (omega arith))
       ∙ one_more (scan f (s * 4 + a)) s a (d.branch s a)
       ∙ ap (pick (scan f (s * 4 + a)) (s * 4 + a)) (sym (offered_at s a h4))
@@ -211,7 +188,7 @@ module _ (d : Diagram) (lawful : Lawful d) (cost : ℤ → ℤ → ℕ) (x : ℤ
   states_more zero = refl
   states_more (suc n) =
       ap (fold more None) (sym (flat_map_more (branches_from d) [] (below n) n))
-      ∙ folded_append more None (flat_map (branches_from d) (below n)) (branches_from d n)
+      ∙ fold-append more None (flat_map (branches_from d) (below n)) (branches_from d n)
       ∙ ap (λ o. fold more o (branches_from d n)) (states_more n)
       ∙ state_more n
 

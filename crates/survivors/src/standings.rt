@@ -36,9 +36,9 @@ fn gather(row: &[Rank; MOST_STATES], n: usize, end: Option<usize>) -> Rank
 }
 
 // Fills a table with the chosen branches: the byte of a step and a state, 0 where no path arrives there and where there
-// is no such sample or state. Answers in the same pass where the first of the cheapest
-// admissible paths ends, what it costs, how many cost as little, and the least cost of the others; nothing where there
-// is no admissible path. A start that is no state permits no path, and only the first 512 samples count.
+// is no such sample or state. Answers in the same pass where the first of the cheapest admissible paths ends, what it
+// costs, how many cost as little, and the least cost of the others; nothing where there is no admissible path. A start
+// that is no state permits no path, and only the first 512 samples count.
 pub fn survey<T: Trellis, M: Measure>(
     trellis: &T,
     measure: &M,

@@ -41,10 +41,14 @@ loop-branch-preserved g c =
     let lt = c.loop-branch-test.true in
     let f : SFits w16 b.label = search rules in
     let w : c.cost-cost.result ≡ p b.label x = c.cost-cost.ensures ∙ ap (λ z. p z x) (to_z-of_z w16 b.label f) in
-    (advanced_more p x from row c.put.new.row bytes c.put.new.bytes bs i b lt (get_or_default bs i none b lt) (All-get_or (Within 64 64) bs i none lt c.requires.within) c.told-from c.loop-branch.invariant.1
-        (omega (arith, c.requires.bytes, c.loop-branch.auto.bytes)) (omega (arith, w, c.cost-cost.type_inv)) c.requires.sounds c.loop-branch.invariant.0
-        (c.put.ensures.row ∙ ap (λ z. set row b.next (joined_rank (get_or row b.next past) (get_or from b.from past) z)) w)
-        (c.put.ensures.bytes ∙ ap (λ z. cond (ltb ((get_or from b.from past).cost + z) (get_or row b.next past).cost) (set bytes b.next b.byte) bytes) w), search rules)
+    let put : c.put.new.row ≡ set row b.next (joined_rank (get_or row b.next past) (get_or from b.from past) c.cost-cost.result) = c.put.ensures.row in
+    let byte : c.put.new.bytes ≡ cond (ltb ((get_or from b.from past).cost + c.cost-cost.result) (get_or row b.next past).cost) (set bytes b.next b.byte) bytes = c.put.ensures.bytes in (
+      advanced_more p x from row c.put.new.row bytes c.put.new.bytes bs i b lt (get_or_default bs i none b lt) (All-get_or (Within 64 64) bs i none lt c.requires.within) c.told-from c.loop-branch.invariant.1
+          (omega (arith, c.requires.bytes, c.loop-branch.auto.bytes)) (omega (arith, w, c.cost-cost.type_inv)) c.requires.sounds c.loop-branch.invariant.0
+          (put ∙ ap (λ z. set row b.next (joined_rank (get_or row b.next past) (get_or from b.from past) z)) w)
+          (byte ∙ ap (λ z. cond (ltb ((get_or from b.from past).cost + z) (get_or row b.next past).cost) (set bytes b.next b.byte) bytes) w),
+      search rules,
+    )
 
 pub returns : goal.returns
 returns g c =

@@ -6,7 +6,7 @@ use Rattle.algebras.specs.TwoCosts.{two_cheapest}
 use Rattle.algebras.specs.CostCountLaws.{cost_count_laws}
 use Rattle.algebras.specs.TwoLaws.{two_laws}
 use Rattle.paths.specs.Sums.{path_sum}
-use Rattle.survivors.specs.Ranks.{tied, two}
+use Rattle.survivors.specs.Ranks.{tied, two, gathered}
 use Rattle.survivors.specs.Traces.{EndsAt, StandsAt}
 use Rattle.survivors.proofs.Ranking.{sounds_more}
 use Rattle.survivors.proofs.Surveying.{costs_of, gathered_sum, ties_are, second_is}
@@ -38,8 +38,10 @@ returns-clause-standing g c =
     let range : AllByRecursion InRange xs = c.fill-row.ensures.range in
     let all = c.gather-all.result in
     let fits : all.count < 2 ^ 64 = search rules in
-    let is_tied : tied all ≡ path_sum d p cheapest_with_count start end xs = c.gather-all.ensures.tied ∙ gathered_sum cheapest_with_count cost_count_laws tied p d lawful start end xs c.fill-row.result c.states.result c.states.ensures ranked.tied in
-    let is_two : two all ≡ path_sum d p two_cheapest start end xs = c.gather-all.ensures.two ∙ gathered_sum two_cheapest two_laws two p d lawful start end xs c.fill-row.result c.states.result c.states.ensures ranked.two in
+    let n_tied : tied all ≡ gathered cheapest_with_count tied end c.fill-row.result c.states.result = c.gather-all.ensures.tied in
+    let n_two : two all ≡ gathered two_cheapest two end c.fill-row.result c.states.result = c.gather-all.ensures.two in
+    let is_tied : tied all ≡ path_sum d p cheapest_with_count start end xs = n_tied ∙ gathered_sum cheapest_with_count cost_count_laws tied p d lawful start end xs c.fill-row.result c.states.result c.states.ensures ranked.tied in
+    let is_two : two all ≡ path_sum d p two_cheapest start end xs = n_two ∙ gathered_sum two_cheapest two_laws two p d lawful start end xs c.fill-row.result c.states.result c.states.ensures ranked.two in
     let bounded = g.met.M.Measure.bounded c.args.measure.now in
     let at : EndsAt d p start end xs (Some c.in_ok-first.first) = subst (EndsAt d p start end xs) c.in_ok-first.was (c.ending.ensures p start xs row) in
     let sorted = c.gather-all.ensures.sound.sorted in (
