@@ -1,5 +1,5 @@
 -- The table of bytes, one step after another.
-use Rattle.std.proofs.Common.{◌≡◌, ℕ, zero, suc, ◌+◌, ◌*◌, ◌<◌, ◌≤◌, Bool, true, false, cond, List, [], ◌∷◌, ◌++◌, length, get_or, take, drop, replicate, ℤ, pos, Some, None, Option, sym, refl, ap, ◌∙◌, subst, inl, inr, arith, length-take, get_or-drop, get_or-take, rules, below_more}
+use Rattle.std.proofs.Common.{◌≡◌, ℕ, zero, suc, ◌+◌, ◌*◌, ◌<◌, ◌≤◌, List, [], ◌∷◌, ◌++◌, length, get_or, take, drop, replicate, ℤ, pos, Option, sym, ap, ◌∙◌, subst, inl, inr, arith, length-take, get_or-drop, get_or-take, rules, below_more}
 use lib.ListN.{length-replicate}
 use denote.Param.Members.{Mut, Called}
 use borrow.Rule.Slice.PartMut.{put_mid}

@@ -1,5 +1,5 @@
 -- Rows of costs as plain numbers, one of which stands for none.
-use Rattle.std.specs.Prelude.{◌≡◌, ℕ, ◌+◌, ◌^◌, ◌<◌, ◌≤◌, cond, List, ℤ, Some, None, Option, nat_lt, slice_index}
+use Rattle.std.specs.Prelude.{◌≡◌, ℕ, ◌^◌, ◌<◌, ◌≤◌, cond, List, ℤ, Some, None, Option, nat_lt, slice_index}
 use Rattle.model.specs.Trellises.{Diagram}
 use Rattle.survivors.specs.Choices.{Costs}
 use Rattle.survivors.specs.Survivors.{cost_in, byte_in}

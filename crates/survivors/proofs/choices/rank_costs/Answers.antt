@@ -1,4 +1,4 @@
-use Rattle.std.proofs.Common.{rules, arith, ◌≡◌, ℕ, ◌<◌, get_or, map, length, sym, ◌∙◌, None}
+use Rattle.std.proofs.Common.{rules, arith, map, sym, ◌∙◌}
 use Rattle.std.proofs.lemmas.List.{same_lists, get_or-map, length-map}
 use Rattle.survivors.specs.Ranks.{past}
 use Rattle.survivors.specs.Reaches.{as_cost}

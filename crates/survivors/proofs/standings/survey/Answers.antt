@@ -1,4 +1,4 @@
-use Rattle.std.proofs.Common.{◌≡◌, ◌*◌, ◌^◌, ◌<◌, ◌≤◌, length, take, Some, None, sym, ◌∙◌, subst, arith, length-take, rules}
+use Rattle.std.proofs.Common.{◌≡◌, ◌*◌, ◌^◌, ◌<◌, ◌≤◌, length, take, Some, sym, ◌∙◌, subst, arith, length-take, rules}
 use Rattle.std.specs.List.{AllByRecursion}
 use Rattle.model.specs.Ranges.{InRange, most_cost}
 use Rattle.algebras.specs.CostCounts.{cheapest_with_count}
