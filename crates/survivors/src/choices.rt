@@ -8,7 +8,7 @@ ghost use Rattle.survivors.specs.Reaches.{as_cost};
 ghost use Rattle.survivors.specs.Ranks.{opening_rank, Ranked};
 ghost use Rattle.survivors.specs.Rows.{Zeros, Tabled};
 
-use crate::costs::{UNREACHED, as_cost};
+use crate::costs::as_cost;
 use crate::layout::{MOST_SAMPLES, MOST_STATES, TABLE_SIZE, place_of};
 use crate::rank::Rank;
 use crate::ranks::{NOWHERE, advance_ranks};
@@ -26,8 +26,7 @@ fn opening_rank(start: Option<usize>, state: usize) -> Rank
         Rank {
             cost: 0,
             count: 1,
-            second: UNREACHED,
-            spare: 0,
+            ..NOWHERE
         }
     } else {
         NOWHERE
@@ -76,7 +75,7 @@ fn rank_all<T: Trellis, M: Measure>(
     let branches = list.as_slice();
     let clear = [NOWHERE; MOST_STATES];
     let mut row = open_ranks(start);
-    // By place: of the parts that chunks_exact_mut hands out a proof knows afterwards only how long the whole is.
+    // By place: of bytes written through chunks_exact_mut a proof would know only how many there are.
     for (k, sample) in samples.iter().enumerate() {
         let from = place_of(k, 0);
         advance_ranks(

@@ -2,8 +2,8 @@
 ghost use Rattle.std.specs.Prelude.{◌≡◌};
 ghost use Rattle.survivors.specs.Reaches.{as_cost};
 
-// Stands for no cost, above what any path costs: a sum with it is never the cheaper. It stays a number, and is no Option,
-// since then nothing has to be asked in the inner loop: with rows of Option<u64> the pass was measured slower.
+// Stands for no cost, above what any path costs: a sum with it is never the cheaper.
+// A number and no Option, so that the inner loop has nothing to ask: with rows of Option<u64> the pass was measured slower.
 pub(crate) const UNREACHED: u64 = 1 << 62;
 
 // The cost that a number stands for.

@@ -43,7 +43,7 @@ pub(crate) fn join(held: &mut Rank, from: Rank, cost: u32) -> bool
     false
 }
 
-// Joins to the rank of a state what a branch into it brings from a rank, and puts down its byte where that is the cheaper.
+// Joins to the rank of a state what a branch into it brings from a rank, and puts its byte down where that is cheaper.
 fn put(
     row: &mut [Rank; MOST_STATES],
     bytes: &mut [u8],
@@ -65,7 +65,8 @@ fn put(
 }
 
 // What the branches bring from the states that were reached, with the byte of the cheapest branch; among equals the
-// first stays. The bound on the costs of a row grows with each sample, so it is asked for, and is no invariant of a type.
+// first stays.
+// The bound on the costs of a row grows with each sample: so it is asked for, and a row is no type with an invariant.
 fn extend<M: Measure>(
     branches: &[ListedBranch],
     measure: &M,
@@ -87,7 +88,8 @@ fn extend<M: Measure>(
     }
 }
 
-// One sample further: the ranks and the bytes of all states. A row is cleared by a copy of one that is clear.
+// One sample further: the ranks and the bytes of all states.
+// The new row begins as a copy of one that is clear, and is copied over the old one: so it was measured the fastest.
 pub(crate) fn advance_ranks<M: Measure>(
     branches: &[ListedBranch],
     measure: &M,
