@@ -106,11 +106,11 @@ pub(crate) fn fill<T: Trellis, M: Measure>(
     rank_all(trellis, measure, counted(samples), start, choices)
 }
 
-// The costs of a row.
+// The costs of a row; read by place, since map would first copy the row, which was measured slower.
 pub(crate) fn rank_costs(row: &[Rank; MOST_STATES]) -> [Option<u64>; MOST_STATES]
     ensures { result ≡ map (λ rank. as_cost rank.cost) row.now }
 {
-    row.map(|rank| as_cost(rank.cost))
+    array::from_fn(|state| as_cost(row[state].cost))
 }
 
 // Fills a table with the chosen branches: the byte of a step and a state, 0 where no path arrives there and where
