@@ -1,5 +1,6 @@
 -- The cheapest branch that a scan finds is the last one of the first of the cheapest paths.
 use Rattle.std.proofs.Common.{◌≡◌, ℕ, suc, ◌+◌, ◌*◌, ◌/◌, ◌%◌, ◌<◌, ◌≤◌, Bool, true, false, cond, eqb, ◌⊎◌, List, [], ◌∷◌, ◌++◌, length, ℤ, Some, None, Option, sym, refl, ap, ◌∙◌, subst, inl, inr, arith, eq-eqb, eqb-true}
+use Rattle.std.proofs.lemmas.List.{nil_from_length}
 use Rattle.std.proofs.lemmas.Bool.{cases_order, both_ways}
 use Rattle.model.specs.Trellises.{Branch, Diagram, Lawful}
 use Rattle.paths.specs.Paths.{Path, Admissible, reached, permits, path_cost}
@@ -11,7 +12,7 @@ use Rattle.survivors.specs.Choices.{Chosen, Costs, last_byte, leading_byte, cost
 use Rattle.survivors.specs.Laws.{push}
 use Rattle.survivors.specs.Survivors.{offer, offered, best, cost_in, byte_in, opening}
 use Rattle.paths.proofs.Listing.{never}
-use Rattle.survivors.proofs.Pushes.{same_some, no_letters, length_push, back_push, cost_push, arrives, admit_to, admit_push, branch_low}
+use Rattle.survivors.proofs.Pushes.{same_some, length_push, back_push, cost_push, arrives, admit_to, admit_push, branch_low}
 use Rattle.survivors.proofs.Scans.{Sooner, Least, scan_least}
 use Rattle.paths.proofs.Ordering.{lower_says}
 use Rattle.survivors.proofs.Firsts.{before_at, branch_from, LastStep, last_step, is_first_some}
@@ -172,7 +173,7 @@ module _ (d : Diagram) (cost : ℤ → ℤ → ℕ) (start : Option ℕ) (s : �
   only_single : (q : Path) → Admissible d start (Some s) 0 q → (permits start s ≡ true) × (single ≡ q)
   only_single q h =
       let k = arrives d start 0 s q h in
-      let e : q.letters ≡ [] = no_letters q.letters h.path.steps in
+      let e : q.letters ≡ [] = nil_from_length q.letters h.path.steps in
       let f : q.first ≡ s = same_some refl (ap (reached d q.first) (sym e) ∙ k.1) in
       (ap (permits start) (sym f) ∙ k.0, λ i. record { first = (sym f) i; letters = (sym e) i })
 

@@ -2,7 +2,7 @@
 use Rattle.std.proofs.Common.{◌≡◌, ℕ, zero, suc, ◌+◌, ◌*◌, ◌/◌, ◌%◌, ◌<◌, ◌≤◌, true, ◌⊎◌, List, [], ◌∷◌, ◌++◌, length, get_or, take, ℤ, pos, Some, None, Option, unwrap_or, sym, refl, ap, ◌∙◌, subst, ap₂, inl, inr, add-one, arith}
 use mathlib.Core.List.{append_cancel_right}
 use borrow.Author.Tests.{clash}
-use Rattle.std.proofs.lemmas.List.{take_more, get_or_default, same_lists}
+use Rattle.std.proofs.lemmas.List.{take_more, get_or_default, same_lists, nil_from_length}
 use Rattle.std.proofs.lemmas.Bool.{cases_Bool, cases_lt, cases_order, and_parts, both_ways}
 use Rattle.model.specs.Trellises.{Diagram, Lawful}
 use Rattle.paths.proofs.Ordering.{lower_lt, lower_eq}
@@ -14,7 +14,7 @@ use Rattle.paths.proofs.Firsts.{first_found, one_first, same_path_says, same_pat
 use Rattle.survivors.specs.Choices.{TableOf, Chosen, byte_at, last_byte, leading_byte}
 use Rattle.survivors.specs.Laws.{push, Substructure, path_back, LeadsBack, OneTable, OverEnds}
 use Rattle.paths.proofs.Listing.{never}
-use Rattle.survivors.proofs.Pushes.{same_some, no_letters, length_push, reached_push, back_push, cost_push, arrives, admit, admit_to, admit_push, admit_last, push_of, branch_low}
+use Rattle.survivors.proofs.Pushes.{same_some, length_push, reached_push, back_push, cost_push, arrives, admit, admit_to, admit_push, admit_last, push_of, branch_low}
 
 -- ---- one step more on both paths
 
@@ -155,7 +155,7 @@ back_more d lawful cost start xs table tab k le before-it t p f = go (tab.chosen
 
 pub leads_back : LeadsBack
 leads_back d lawful cost start xs table tab zero le t p f =
-    let e : p.letters ≡ [] = no_letters p.letters f.path.path.steps in
+    let e : p.letters ≡ [] = nil_from_length p.letters f.path.path.steps in
     let q : Some p.first ≡ Some t = ap (reached d p.first) (sym e) ∙ (arrives d start 0 t p f.path).1 in
     let z : t ≡ p.first = same_some refl (sym q) in
     λ i. record { first = z i; letters = (sym e) i }

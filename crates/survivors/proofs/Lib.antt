@@ -5,7 +5,5 @@ pub mod Bests
 pub mod Rowing
 pub mod Tabling
 pub mod Tracing
-pub mod RankRowing
-pub mod RankTabling
 pub mod Ranking
 pub mod Surveying

@@ -17,10 +17,6 @@ pub length_push : {X : Type 0} (v : List X) (y : X) → length (v ++ (y ∷ []))
 length_push [] y = refl
 length_push (z ∷ v) y = ap suc (length_push v y)
 
-pub no_letters : (w : List ℕ) → length w ≡ 0 → w ≡ []
-no_letters [] h = refl
-no_letters (a ∷ w) h = absurd (omega arith)
-
 -- a list that is not empty, as all but its last and that
 pub unpushed : {X : Type 0} (n : ℕ) (v : List X) → length v ≡ suc n → (w : List X) × (y : X) × (v ≡ w ++ (y ∷ []))
 unpushed n [] h = absurd (omega arith)

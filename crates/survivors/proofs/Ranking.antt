@@ -1,8 +1,9 @@
 -- Ranks as weights of the two pair algebras.
-use Rattle.std.proofs.Common.{◌≡◌, ℕ, ◌+◌, ◌*◌, ◌%◌, ◌^◌, ◌<◌, ◌≤◌, min, max, Bool, true, false, cond, eqb, ltb, ◌⊎◌, List, [], ◌∷◌, ◌++◌, length, get_or, take, set, ℤ, Some, None, Option, sym, refl, ap, ◌∙◌, subst, ap₂, inl, inr, add-zero, zero-add, mul-one, arith, get_or-set_other, get_or-set_same, le-ltb, lt-ltb, eqb-true}
+use Rattle.std.proofs.Common.{◌≡◌, ℕ, ◌+◌, ◌*◌, ◌%◌, ◌^◌, ◌<◌, ◌≤◌, min, max, Bool, true, false, cond, eqb, ltb, ◌⊎◌, List, [], ◌∷◌, ◌++◌, length, get_or, take, set, replicate, ℤ, Some, None, Option, sym, refl, ap, ◌∙◌, subst, ap₂, inl, inr, add-zero, zero-add, mul-one, arith, get_or-set_other, get_or-set_same, le-ltb, lt-ltb, eqb-true}
+use lib.Seq.{set-get_or}
 use native.Mathlib.Nat.{mod-mod}
 use borrow.Author.Tests.{eqb-false}
-use Rattle.std.proofs.lemmas.List.{take_more, get_or-map, map-set, length-map}
+use Rattle.std.proofs.lemmas.List.{take_more, get_or-map, get_or-replicate, map-set, length-map}
 use Rattle.std.proofs.lemmas.Bool.{cases_lt, cases_order}
 use Rattle.algebras.specs.declared.weights.TwoCosts.{TwoCosts}
 use Rattle.algebras.specs.Numbers.{inf, capped_sum, count_product, count_at}
@@ -20,10 +21,11 @@ use Rattle.paths.proofs.Reading.{count_low, count_high, at_high, both_counts, co
 use Rattle.survivors.specs.declared.rank.Rank.{Rank}
 use Rattle.model.specs.Ranges.{most_cost}
 use Rattle.paths.specs.Branches.{Within}
-use Rattle.survivors.specs.Survivors.{pick, offered_by, opening}
+use Rattle.survivors.specs.Survivors.{pick, offered_by, best_of, opening}
 use Rattle.survivors.specs.Reaches.{unreached, as_cost, reached_at, KeptNumbers, Capped}
-use Rattle.survivors.proofs.RankRowing.{kept_branch}
-use Rattle.survivors.specs.Ranks.{widened, tied, two, nowhere, joined_rank, Sound, past, Sounds, costs_in, Brought, opening_rank}
+use Rattle.survivors.proofs.Rowing.{kept_branch, kept_none, kept_same, best_more}
+use Rattle.survivors.specs.Rows.{Zeros}
+use Rattle.survivors.specs.Ranks.{widened, tied, two, nowhere, joined_rank, Sound, past, Sounds, costs_in, Brought, Advanced, opening_rank}
 
 -- ---- the number for no cost
 
@@ -273,7 +275,7 @@ module _ (cost : ℤ → ℤ → ℕ) (x : ℤ) (from row : List Rank) (bytes : 
   cap : Capped 64 (costs_in row)
   cap k l = let e : get_or (costs_in row) k 0 ≡ (get_or row k past).cost = cost_at row k (omega arith) in let s = (sr k l).sorted in let c = (sr k l).capped in omega arith
 
-  pub kept_rank : (g : ℕ → Option (ℕ × ℕ)) → KeptNumbers 64 g (costs_in row) bytes →
+  kept_rank : (g : ℕ → Option (ℕ × ℕ)) → KeptNumbers 64 g (costs_in row) bytes →
       KeptNumbers 64 (λ k. pick (g k) b.byte (offered_by cost x (reached_at (costs_in from)) k b)) (costs_in into) (set bytes b.next (cond (ltb (f.cost + w) h.cost) b.byte (get_or bytes b.next 0)))
   kept_rank g kept =
       let so_far : ℕ → Option (ℕ × ℕ) = λ k. pick (g k) b.byte (offered_by cost x (reached_at (costs_in from)) k b) in
@@ -284,7 +286,7 @@ module _ (cost : ℤ → ℤ → ℕ) (x : ℤ) (from row : List Rank) (bytes : 
       (ap (set (costs_in row) b.next) (ap₂ (λ u v. cond (ltb (u + w) v) (u + w) v) eu ev ∙ lesser_is (f.cost + w) h.cost) ∙ sym (map-set (λ a. a.cost) row b.next (joined_rank h f w)))
       k)
 
-  pub sounds_branch : (c : ℕ) → Sounds c from → Sounds (c + most_cost) row → Sounds (c + most_cost) into
+  sounds_branch : (c : ℕ) → Sounds c from → Sounds (c + most_cost) row → Sounds (c + most_cost) into
   sounds_branch c p q k l = go (eqb k b.next) refl
     where
       new : Sound (c + most_cost) (joined_rank h f w)
@@ -295,20 +297,55 @@ module _ (cost : ℤ → ℤ → ℕ) (x : ℤ) (from row : List Rank) (bytes : 
       go false e = subst (Sound (c + most_cost)) (sym (get_or-set_other row b.next k (joined_rank h f w) past (eqb-false k b.next e))) (q k l)
 
   module _ (bs : List ListedBranch) (i : ℕ) (lt : i < length bs) (e : b ≡ get_or bs i b) where
-    pub tied_branch : Brought cheapest_with_count tied cost x from (take i bs) row → Brought cheapest_with_count tied cost x from (take (i + 1) bs) into
+    tied_branch : Brought cheapest_with_count tied cost x from (take i bs) row → Brought cheapest_with_count tied cost x from (take (i + 1) bs) into
     tied_branch = brought_branch cheapest_with_count cost_count_laws tied cost x from row bs i b lt e (omega (arith, inside.1))
         (tied_joined h f w (omega arith) (sr b.next inside.1).sorted (sf b.from inside.0).sorted room room₂)
 
-    pub two_branch : Brought two_cheapest two cost x from (take i bs) row → Brought two_cheapest two cost x from (take (i + 1) bs) into
+    two_branch : Brought two_cheapest two cost x from (take i bs) row → Brought two_cheapest two cost x from (take (i + 1) bs) into
     two_branch = brought_branch two_cheapest two_laws two cost x from row bs i b lt e (omega (arith, inside.1))
         (two_joined h f w (omega arith) (sr b.next inside.1).sorted (sf b.from inside.0).sorted room room₂)
 
 -- before any branch
-pub brought_none : {W : Type 0} (r : Semiring W) (g : Rank → W) → g nowhere ≡ r.zero → (cost : ℤ → ℤ → ℕ) (x : ℤ) (from row : List Rank) → ((k : ℕ) → k < 64 → get_or row k past ≡ nowhere) → Brought r g cost x from [] row
+brought_none : {W : Type 0} (r : Semiring W) (g : Rank → W) → g nowhere ≡ r.zero → (cost : ℤ → ℤ → ℕ) (x : ℤ) (from row : List Rank) → ((k : ℕ) → k < 64 → get_or row k past ≡ nowhere) → Brought r g cost x from [] row
 brought_none r g e cost x from row clear t l = ap g (clear t l) ∙ e
 
-pub clear_costs : (row : List Rank) → length row ≡ 64 → ((k : ℕ) → k < 64 → get_or row k past ≡ nowhere) → (k : ℕ) → k < 64 → get_or (costs_in row) k 0 ≡ unreached
+clear_costs : (row : List Rank) → length row ≡ 64 → ((k : ℕ) → k < 64 → get_or row k past ≡ nowhere) → (k : ℕ) → k < 64 → get_or (costs_in row) k 0 ≡ unreached
 clear_costs row lr clear k l = cost_at row k (omega arith) ∙ ap (λ a. a.cost) (clear k l)
+
+pub advanced_none : (cost : ℤ → ℤ → ℕ) (x : ℤ) (from row : List Rank) (bytes : List ℕ) → length row ≡ 64 → row ≡ replicate 64 nowhere → Zeros bytes → Advanced cost x from [] row bytes
+advanced_none cost x from row bytes lr e zeros =
+    let clear : (k : ℕ) → k < 64 → get_or row k past ≡ nowhere = λ k l. ap (λ z. get_or z k past) e ∙ get_or-replicate 64 k nowhere past l in
+    record {
+      kept = kept_none cost x (costs_in from) (costs_in row) bytes 64 (clear_costs row lr clear) zeros;
+      tied = brought_none cheapest_with_count tied refl cost x from row clear;
+      two = brought_none two_cheapest two refl cost x from row clear;
+      sounds = λ c s k l. subst (Sound (c + most_cost)) (sym (clear k l)) (sound_nowhere (c + most_cost));
+    }
+
+-- one branch more of a list
+pub advanced_more : (cost : ℤ → ℤ → ℕ) (x : ℤ) (from row row' : List Rank) (bytes bytes' : List ℕ) (bs : List ListedBranch) (i : ℕ) (b : ListedBranch) → i < length bs → b ≡ get_or bs i b → Within 64 64 b →
+    length from ≡ 64 → length row ≡ 64 → 64 ≤ length bytes → cost b.label x ≤ most_cost → Sounds (2 ^ 61) from → Advanced cost x from (take i bs) row bytes →
+    row' ≡ set row b.next (joined_rank (get_or row b.next past) (get_or from b.from past) (cost b.label x)) →
+    bytes' ≡ cond (ltb ((get_or from b.from past).cost + cost b.label x) (get_or row b.next past).cost) (set bytes b.next b.byte) bytes →
+    Advanced cost x from (take (i + 1) bs) row' bytes'
+advanced_more cost x from row row' bytes bytes' bs i b lt here inside lf lr lb small sf old er eb =
+    let sr : Sounds (2 ^ 62) row = sounds_more (2 ^ 61 + most_cost) (2 ^ 62) row (omega arith) (old.sounds (2 ^ 61) sf) in
+    let at = reached_at (costs_in from) in
+    let so_far : ℕ → Option (ℕ × ℕ) = λ k. pick (best_of cost x at (take i bs) k) b.byte (offered_by cost x at k b) in
+    let more : (k : ℕ) → so_far k ≡ best_of cost x at (take (i + 1) bs) k =
+    λ k. ap (λ z. pick (best_of cost x at (take i bs) k) z.byte (offered_by cost x at k z)) here ∙ best_more cost x at bs i b lt k in
+    let byte : set bytes b.next (cond (ltb ((get_or from b.from past).cost + cost b.label x) (get_or row b.next past).cost) b.byte (get_or bytes b.next 0)) ≡ bytes' =
+    elim (ltb ((get_or from b.from past).cost + cost b.label x) (get_or row b.next past).cost) as (λ q. set bytes b.next (cond q b.byte (get_or bytes b.next 0)) ≡ cond q (set bytes b.next b.byte) bytes) [
+      | true ↦ refl
+      | false ↦ set-get_or bytes b.next 0
+    ] ∙ sym eb in
+    subst (λ z. Advanced cost x from (take (i + 1) bs) z bytes') (sym er) (record {
+      kept = kept_same 64 so_far (best_of cost x at (take (i + 1) bs)) _ bytes' more
+          (subst (KeptNumbers 64 so_far _) byte (kept_rank cost x from row bytes b inside lf lr lb small sf sr (best_of cost x at (take i bs)) old.kept));
+      tied = tied_branch cost x from row bytes b inside lf lr lb small sf sr bs i lt here old.tied;
+      two = two_branch cost x from row bytes b inside lf lr lb small sf sr bs i lt here old.two;
+      sounds = λ c lo. sounds_branch cost x from row bytes b inside lf lr lb small sf sr c lo (old.sounds c lo);
+    })
 
 pub opening_reached : (start : Option ℕ) (row : List Rank) (k : ℕ) → length row ≡ 64 → k < 64 → get_or row k past ≡ opening_rank start k → reached_at (costs_in row) k ≡ opening start k
 opening_reached start row k lr l e =

@@ -1,131 +1,201 @@
--- Rows of costs and bytes, one offer after another.
-use Rattle.std.proofs.Common.{◌≡◌, ℕ, zero, suc, ◌+◌, ◌-◌, ◌*◌, ◌/◌, ◌%◌, ◌<◌, ◌≤◌, Bool, true, false, cond, eqb, ltb, ◌⊎◌, List, length, get_or, set, ℤ, Some, None, Option, sym, refl, ap, ◌∙◌, subst, arith, get_or-set_other, get_or-set_same, eqb-true}
+-- Rows of costs and bytes, one branch after another.
+use Rattle.std.proofs.Common.{◌≡◌, ℕ, zero, suc, ◌+◌, ◌-◌, ◌*◌, ◌/◌, ◌%◌, ◌<◌, ◌≤◌, Bool, true, false, cond, eqb, ltb, List, [], length, get_or, take, set, ℤ, Some, None, fold, Option, sym, refl, ap, ◌∙◌, subst, inl, inr, arith, get_or-set_other, get_or-set_same, le-ltb, lt-ltb, eqb-true}
 use borrow.Author.Tests.{eqb-false}
+use Rattle.std.proofs.lemmas.List.{flat_map_more}
+use Rattle.std.proofs.lemmas.List.Sums.{fold_more, fold-append}
 use Rattle.std.proofs.lemmas.Bool.{cases_lt}
-use Rattle.model.specs.Trellises.{Branch, StaysIn, Diagram, Lawful}
-use Rattle.survivors.specs.Survivors.{pick, scan, offer, offered, best, cost_in, byte_in}
-use Rattle.survivors.specs.Rows.{held, Kept, Low, cheaper, with_cost, with_byte, brought_costs, brought_bytes, so_far}
+use Rattle.std.specs.List.{flat_map}
+use Rattle.model.specs.Trellises.{Branch, Diagram, Lawful}
+use Rattle.paths.specs.declared.branch.ListedBranch.{ListedBranch}
+use Rattle.paths.specs.Listings.{below}
+use Rattle.paths.specs.Branches.{listed, branches_from, branches_of}
+use Rattle.survivors.specs.Survivors.{pick, scan, offer, offered, offered_by, best, best_of, cost_in, byte_in}
+use Rattle.survivors.specs.Reaches.{unreached, as_cost, reached_at, KeptNumbers, Capped}
+use Rattle.paths.proofs.Listing.{never}
 use Rattle.survivors.proofs.Pushes.{same_some}
 
--- a cost that is not above b
-pub low_put : (n b t c : ℕ) (row : List (Option ℕ)) → t < length row → c ≤ b → Low n b row → Low n b (with_cost row t c)
-low_put n b t c row h l low k d kn e = go (cheaper (held row t) c) e
-  where
-    at : (q : Bool) → eqb k t ≡ q → held (set row t (Some c)) k ≡ Some d → d ≤ b
-    at true p f =
-        let z : c ≡ d = same_some refl (sym (ap (λ j. held (set row t (Some c)) j) (eqb-true k t p) ∙ get_or-set_same row t (Some c) None h) ∙ f) in
-        omega arith
-    at false p f = low k d kn (sym (get_or-set_other row t k (Some c) None (eqb-false k t p)) ∙ f)
+-- ---- numbers that stand for costs
 
-    go : (q : Bool) → held (cond q (set row t (Some c)) row) k ≡ Some d → d ≤ b
-    go true f = at (eqb k t) refl f
-    go false f = low k d kn f
+pub as_below : (v : ℕ) → v < unreached → as_cost v ≡ Some v
+as_below v h = ap (λ b. cond b (Some v) None) (lt-ltb v unreached h)
 
-module _ (n : ℕ) (f : ℕ → Option (ℕ × ℕ)) (row : List (Option ℕ)) (bytes : List ℕ) (kept : Kept n f row bytes) (t c i : ℕ) (ht : t < n) (hr : t < length row) (hb : t < length bytes) where
-  same_cost : (o : Option (ℕ × ℕ)) → held row t ≡ cost_in o → held (with_cost row t c) t ≡ cost_in (pick o i (Some c))
-  same_cost None h = ap (λ v. held (cond (cheaper v c) (set row t (Some c)) row) t) h ∙ get_or-set_same row t (Some c) None hr
-  same_cost (Some m) h =
-      ap (λ v. held (cond (cheaper v c) (set row t (Some c)) row) t) h
-      ∙ elim (ltb c m.0) as (λ q. held (cond q (set row t (Some c)) row) t ≡ cost_in (cond q (Some (c, i)) (Some m))) [
-        | true ↦ get_or-set_same row t (Some c) None hr
-        | false ↦ h
-      ]
+pub as_above : (v : ℕ) → unreached ≤ v → as_cost v ≡ None
+as_above v h = ap (λ b. cond b (Some v) None) (le-ltb v unreached h)
 
-  same_byte : (o : Option (ℕ × ℕ)) → held row t ≡ cost_in o → get_or bytes t 0 ≡ byte_in o → get_or (with_byte row bytes t c i) t 0 ≡ byte_in (pick o i (Some c))
-  same_byte None h g = ap (λ v. get_or (cond (cheaper v c) (set bytes t i) bytes) t 0) h ∙ get_or-set_same bytes t i 0 hb
-  same_byte (Some m) h g =
-      ap (λ v. get_or (cond (cheaper v c) (set bytes t i) bytes) t 0) h
-      ∙ elim (ltb c m.0) as (λ q. get_or (cond q (set bytes t i) bytes) t 0 ≡ byte_in (cond q (Some (c, i)) (Some m))) [
-        | true ↦ get_or-set_same bytes t i 0 hb
-        | false ↦ g
-      ]
+pub as_some : (v c : ℕ) → as_cost v ≡ Some c → (v < unreached) × (v ≡ c)
+as_some v c e = elim (cases_lt v unreached) [
+  | inl l ↦ (l, same_some refl (sym (as_below v l) ∙ e))
+  | inr l ↦ absurd (never e (as_above v l))
+]
 
-  at_cost : (k : ℕ) → k < n → (q : Bool) → eqb k t ≡ q → held (with_cost row t c) k ≡ cost_in (pick (f k) i (cond q (Some c) None))
-  at_cost k l true p =
-      let e : k ≡ t = eqb-true k t p in
-      ap (held (with_cost row t c)) e ∙ same_cost (f k) (ap (held row) (sym e) ∙ kept.cost k l)
-  at_cost k l false p =
-      elim (cheaper (held row t) c) as (λ b. held (cond b (set row t (Some c)) row) k ≡ cost_in (f k)) [
-        | true ↦ get_or-set_other row t k (Some c) None (eqb-false k t p) ∙ kept.cost k l
-        | false ↦ kept.cost k l
-      ]
+as_none : (v : ℕ) → as_cost v ≡ None → unreached ≤ v
+as_none v e = elim (cases_lt v unreached) [ inl l ↦ absurd (never (as_below v l) e) | inr l ↦ l ]
 
-  at_byte : (k : ℕ) → (q : Bool) → eqb k t ≡ q → get_or (with_byte row bytes t c i) k 0 ≡ byte_in (pick (f k) i (cond q (Some c) None))
-  at_byte k true p =
-      let e : k ≡ t = eqb-true k t p in
-      let l : k < n = omega arith in
-      ap (λ j. get_or (with_byte row bytes t c i) j 0) e ∙ same_byte (f k) (ap (held row) (sym e) ∙ kept.cost k l) (ap (λ j. get_or bytes j 0) (sym e) ∙ kept.byte k)
-  at_byte k false p =
-      elim (cheaper (held row t) c) as (λ b. get_or (cond b (set bytes t i) bytes) k 0 ≡ byte_in (f k)) [
-        | true ↦ get_or-set_other bytes t k i 0 (eqb-false k t p) ∙ kept.byte k
-        | false ↦ kept.byte k
-      ]
+-- ---- the cheaper of two
 
--- one branch more
-pub kept_brought : (cost : ℤ → ℤ → ℕ) (x : ℤ) (n : ℕ) (f : ℕ → Option (ℕ × ℕ)) (row : List (Option ℕ)) (bytes : List ℕ) (c i : ℕ) (e : Branch) →
-    StaysIn n e → n ≤ length row → n ≤ length bytes → Kept n f row bytes →
-    Kept n (λ k. pick (f k) i (offer cost x k e (Some c))) (brought_costs cost x c e row) (brought_bytes cost x c i e row bytes)
-kept_brought cost x n f row bytes c i None h hr hb kept = kept
-kept_brought cost x n f row bytes c i (Some b) h hr hb kept = record {
-  cost = λ k l. at_cost n f row bytes kept b.0 (c + cost b.1 x) i h.0 (omega (arith, h.0)) (omega (arith, h.0)) k l (eqb k b.0) refl;
-  byte = λ k. at_byte n f row bytes kept b.0 (c + cost b.1 x) i h.0 (omega (arith, h.0)) (omega (arith, h.0)) k (eqb k b.0) refl;
-}
+-- a cost, if there is one, and w more
+abbrev plus_cost : Option ℕ → ℕ → Option ℕ
+plus_cost None w = None
+plus_cost (Some c) w = Some (c + w)
 
-pub kept_same : (n : ℕ) (f g : ℕ → Option (ℕ × ℕ)) (row : List (Option ℕ)) (bytes : List ℕ) → ((k : ℕ) → f k ≡ g k) → Kept n f row bytes → Kept n g row bytes
+abbrev Picked : ℕ → ℕ → ℕ → ℕ → ℕ → Option (ℕ × ℕ) → Option ℕ → Type 0
+Picked c v i j w o u = (as_cost (cond (ltb c v) c v) ≡ cost_in (pick o i (plus_cost u w))) × (cond (ltb c v) i j ≡ byte_in (pick o i (plus_cost u w)))
+
+module _ (u w v i j : ℕ) (cap : v ≤ unreached) (room : u < unreached → u + w < unreached) where
+  by_cost : (o : Option (ℕ × ℕ)) → u < unreached → as_cost v ≡ cost_in o → j ≡ byte_in o → Picked (u + w) v i j w o (Some u)
+  by_cost None l e f =
+      let far : unreached ≤ v = as_none v e in
+      let less : u + w < unreached = room l in
+      let b : ltb (u + w) v ≡ true = lt-ltb (u + w) v (omega arith) in
+      (ap (λ q. as_cost (cond q (u + w) v)) b ∙ as_below (u + w) less, ap (λ q. cond q i j) b)
+  by_cost (Some m) l e f =
+      let is : v ≡ m.0 = (as_some v m.0 e).1 in
+      let less : u + w < unreached = room l in
+      go (ltb (u + w) m.0) (ap (ltb (u + w)) is)
+    where
+      go : (q : Bool) → ltb (u + w) v ≡ q →
+          (as_cost (cond (ltb (u + w) v) (u + w) v) ≡ cost_in (cond q (Some (u + w, i)) (Some m))) × (cond (ltb (u + w) v) i j ≡ byte_in (cond q (Some (u + w, i)) (Some m)))
+      go true b = (ap (λ q. as_cost (cond q (u + w) v)) b ∙ as_below (u + w) (room l), ap (λ q. cond q i j) b)
+      go false b = (ap (λ q. as_cost (cond q (u + w) v)) b ∙ e, ap (λ q. cond q i j) b ∙ f)
+
+  pub picked : (o : Option (ℕ × ℕ)) → as_cost v ≡ cost_in o → j ≡ byte_in o → Picked (u + w) v i j w o (as_cost u)
+  picked o e f = elim (cases_lt u unreached) [
+    | inl l ↦ subst (Picked (u + w) v i j w o) (sym (as_below u l)) (by_cost o l e f)
+    | inr l ↦ subst (Picked (u + w) v i j w o) (sym (as_above u l)) (
+        let b : ltb (u + w) v ≡ false = le-ltb (u + w) v (omega arith) in
+        (ap (λ q. as_cost (cond q (u + w) v)) b ∙ e, ap (λ q. cond q i j) b ∙ f)
+        )
+  ]
+
+-- ---- one branch more
+
+offer_at : (cost : ℤ → ℤ → ℕ) (x : ℤ) (k t : ℕ) (l : ℤ) (v : Option ℕ) (q : Bool) → eqb k t ≡ q → offer cost x k (Some (t, l)) v ≡ cond q (plus_cost v (cost l x)) None
+offer_at cost x k t l None true e = refl
+offer_at cost x k t l None false e = refl
+offer_at cost x k t l (Some c) q e = ap (λ b. cond b (Some (c + cost l x)) None) e
+
+module _ (cost : ℤ → ℤ → ℕ) (x : ℤ) (from : List ℕ) (n : ℕ) (b : ListedBranch) (row bytes : List ℕ) (inside : b.next < n) (long : n ≤ length row) (wide : n ≤ length bytes) (cap : Capped n row) where
+  abbrev t : ℕ
+  t = b.next
+
+  abbrev u : ℕ
+  u = get_or from b.from 0
+
+  abbrev w : ℕ
+  w = cost b.label x
+
+  abbrev v : ℕ
+  v = get_or row t 0
+
+  -- the rows after it
+  abbrev row' : List ℕ
+  row' = set row t (cond (ltb (u + w) v) (u + w) v)
+
+  abbrev bytes' : List ℕ
+  bytes' = set bytes t (cond (ltb (u + w) v) b.byte (get_or bytes t 0))
+
+  module _ (room : u < unreached → u + w < unreached) (f : ℕ → Option (ℕ × ℕ)) (kept : KeptNumbers n f row bytes) where
+    abbrev g : ℕ → Option (ℕ × ℕ)
+    g k = pick (f k) b.byte (offered_by cost x (reached_at from) k b)
+
+    here : Picked (u + w) v b.byte (get_or bytes t 0) w (f t) (as_cost u)
+    here = picked u w v b.byte (get_or bytes t 0) (cap t inside) room (f t) (kept.cost t inside) (kept.byte t)
+
+    at_cost : (k : ℕ) → k < n → (q : Bool) → eqb k t ≡ q → reached_at row' k ≡ cost_in (g k)
+    at_cost k l true p =
+        let e : k ≡ t = eqb-true k t p in
+        ap (reached_at row') e ∙ ap as_cost (get_or-set_same row t (cond (ltb (u + w) v) (u + w) v) 0 (omega arith)) ∙ here.0
+        ∙ ap (λ j. cost_in (pick (f j) b.byte (plus_cost (as_cost u) w))) (sym e)
+        ∙ ap (λ o. cost_in (pick (f k) b.byte o)) (sym (offer_at cost x k t b.label (as_cost u) true p))
+    at_cost k l false p =
+        ap as_cost (get_or-set_other row t k (cond (ltb (u + w) v) (u + w) v) 0 (eqb-false k t p)) ∙ kept.cost k l
+        ∙ ap (λ o. cost_in (pick (f k) b.byte o)) (sym (offer_at cost x k t b.label (as_cost u) false p))
+
+    at_byte : (k : ℕ) → (q : Bool) → eqb k t ≡ q → get_or bytes' k 0 ≡ byte_in (g k)
+    at_byte k true p =
+        let e : k ≡ t = eqb-true k t p in
+        ap (λ j. get_or bytes' j 0) e ∙ get_or-set_same bytes t (cond (ltb (u + w) v) b.byte (get_or bytes t 0)) 0 (omega arith) ∙ here.1
+        ∙ ap (λ j. byte_in (pick (f j) b.byte (plus_cost (as_cost u) w))) (sym e)
+        ∙ ap (λ o. byte_in (pick (f k) b.byte o)) (sym (offer_at cost x k t b.label (as_cost u) true p))
+    at_byte k false p =
+        get_or-set_other bytes t k (cond (ltb (u + w) v) b.byte (get_or bytes t 0)) 0 (eqb-false k t p) ∙ kept.byte k
+        ∙ ap (λ o. byte_in (pick (f k) b.byte o)) (sym (offer_at cost x k t b.label (as_cost u) false p))
+
+    pub kept_branch : KeptNumbers n g row' bytes'
+    kept_branch = record { cost = λ k l. at_cost k l (eqb k t) refl; byte = λ k. at_byte k (eqb k t) refl }
+
+-- before any branch
+pub kept_none : (cost : ℤ → ℤ → ℕ) (x : ℤ) (from row bytes : List ℕ) (n : ℕ) → ((k : ℕ) → k < n → get_or row k 0 ≡ unreached) → ((k : ℕ) → get_or bytes k 0 ≡ 0) → KeptNumbers n (best_of cost x (reached_at from) []) row bytes
+unfolding best_of
+kept_none cost x from row bytes n clear zeros = record { cost = λ k l. ap as_cost (clear k l); byte = zeros }
+
+pub best_more : (cost : ℤ → ℤ → ℕ) (x : ℤ) (row : ℕ → Option ℕ) (bs : List ListedBranch) (i : ℕ) (b : ListedBranch) → i < length bs → (k : ℕ) →
+    pick (best_of cost x row (take i bs) k) (get_or bs i b).byte (offered_by cost x row k (get_or bs i b)) ≡ best_of cost x row (take (i + 1) bs) k
+unfolding best_of
+best_more cost x row bs i b h k = sym (fold_more (λ o e. pick o e.byte (offered_by cost x row k e)) None bs i b h)
+
+-- ---- a list of branches as a scan over bytes
+
+pub kept_same : (n : ℕ) (f g : ℕ → Option (ℕ × ℕ)) (row bytes : List ℕ) → ((k : ℕ) → f k ≡ g k) → KeptNumbers n f row bytes → KeptNumbers n g row bytes
 kept_same n f g row bytes h kept = record { cost = λ k l. kept.cost k l ∙ ap cost_in (h k); byte = λ k. kept.byte k ∙ ap byte_in (h k) }
 
 -- a scan over numbers that have no cost
-pub scan_idle : (f : ℕ → Option ℕ) (i d : ℕ) → ((j : ℕ) → i ≤ j → j < i + d → f j ≡ None) → scan f i ≡ scan f (i + d)
+scan_idle : (f : ℕ → Option ℕ) (i d : ℕ) → ((j : ℕ) → i ≤ j → j < i + d → f j ≡ None) → scan f i ≡ scan f (i + d)
 scan_idle f i zero h = ap (scan f) (let e : i ≡ i + 0 = omega arith in e)
 scan_idle f i (suc d) h =
     scan_idle f i d (λ j l m. h j l (omega arith)) ∙ sym (ap (pick (scan f (i + d)) (i + d)) (h (i + d) (omega arith) (omega arith)))
     ∙ ap (scan f) (let e : suc (i + d) ≡ i + suc d = omega arith in e)
 
-pub offer_none : (cost : ℤ → ℤ → ℕ) (x : ℤ) (t : ℕ) (e : Branch) → offer cost x t e None ≡ None
-offer_none cost x t None = refl
-offer_none cost x t (Some b) = refl
+module _ (d : Diagram) (lawful : Lawful d) (cost : ℤ → ℤ → ℕ) (x : ℤ) (row : ℕ → Option ℕ) (t : ℕ) where
+  abbrev f : ℕ → Option ℕ
+  f = offered d cost x row t
 
-module _ (d : Diagram) (cost : ℤ → ℤ → ℕ) (x : ℤ) (from : List (Option ℕ)) where
+  abbrev more : Option (ℕ × ℕ) → ListedBranch → Option (ℕ × ℕ)
+  more o b = pick o b.byte (offered_by cost x row t b)
+
   -- the offer of a byte, by its state and letter
-  pub offered_at : (k s a : ℕ) (v : Option ℕ) → a < 4 → held from s ≡ v → offered d cost x (held from) k (s * 4 + a) ≡ offer cost x k (d.branch s a) v
-  offered_at k s a v h e =
+  offered_at : (s a : ℕ) → a < 4 → f (s * 4 + a) ≡ offer cost x t (d.branch s a) (row s)
+  offered_at s a h =
       let q : (s * 4 + a) / 4 ≡ s = omega arith in
       let r : (s * 4 + a) % 4 ≡ a = omega arith in
-      ap (λ i. offer cost x k (d.branch i ((s * 4 + a) % 4)) (held from i)) q ∙ ap (λ j. offer cost x k (d.branch s j) (held from s)) r ∙ ap (offer cost x k (d.branch s a)) e
+      ap (λ i. offer cost x t (d.branch i ((s * 4 + a) % 4)) (row i)) q ∙ ap (λ j. offer cost x t (d.branch s j) (row s)) r
 
-  -- one letter more of the state s
-  pub letter_more : (s a c : ℕ) (row row' : List (Option ℕ)) (bytes bytes' : List ℕ) → a < 4 → held from s ≡ Some c → StaysIn d.states (d.branch s a) → d.states ≤ length row → d.states ≤ length bytes →
-      Kept d.states (so_far d cost x from (s * 4 + a)) row bytes →
-      row' ≡ brought_costs cost x c (d.branch s a) row → bytes' ≡ brought_bytes cost x c (s * 4 + a) (d.branch s a) row bytes →
-      Kept d.states (so_far d cost x from (s * 4 + (a + 1))) row' bytes'
-  letter_more s a c row row' bytes bytes' h e i hr hb kept p q =
-      kept_same d.states (λ k. pick (so_far d cost x from (s * 4 + a) k) (s * 4 + a) (offer cost x k (d.branch s a) (Some c))) (so_far d cost x from (s * 4 + (a + 1))) row' bytes'
-      (λ k. ap (pick (so_far d cost x from (s * 4 + a) k) (s * 4 + a)) (sym (offered_at k s a (Some c) h e)) ∙ ap (λ j. so_far d cost x from j k) (let z : suc (s * 4 + a) ≡ s * 4 + (a + 1) = omega arith in z))
-      (subst (λ r. Kept d.states (λ k. pick (so_far d cost x from (s * 4 + a) k) (s * 4 + a) (offer cost x k (d.branch s a) (Some c))) r bytes') (sym p)
-      (subst (λ r. Kept d.states (λ k. pick (so_far d cost x from (s * 4 + a) k) (s * 4 + a) (offer cost x k (d.branch s a) (Some c))) (brought_costs cost x c (d.branch s a) row) r) (sym q)
-      (kept_brought cost x d.states (so_far d cost x from (s * 4 + a)) row bytes c (s * 4 + a) (d.branch s a) i hr hb kept)))
+  one_more : (o : Option (ℕ × ℕ)) (s a : ℕ) (b : Branch) → fold more o (listed s a b) ≡ pick o (s * 4 + a) (offer cost x t b (row s))
+  one_more o s a None = refl
+  one_more o s a (Some b) = refl
 
-  module _ (lawful : Lawful d) where
-    -- the letters that are left have no branch
-    pub letters_all : (s a : ℕ) (row : List (Option ℕ)) (bytes : List ℕ) → d.letters ≤ a → a ≤ 4 → Kept d.states (so_far d cost x from (s * 4 + a)) row bytes → Kept d.states (so_far d cost x from ((s + 1) * 4)) row bytes
-    letters_all s a row bytes h g kept = kept_same d.states (so_far d cost x from (s * 4 + a)) (so_far d cost x from ((s + 1) * 4)) row bytes (λ k. idle k ∙ ap (λ j. so_far d cost x from j k) (end (cases_lt a 4))) kept
-      where
-        idle : (k : ℕ) → so_far d cost x from (s * 4 + a) k ≡ so_far d cost x from (s * 4 + a + (4 - a)) k
-        idle k = scan_idle (offered d cost x (held from) k) (s * 4 + a) (4 - a)
-            (λ j l m. ap (λ e. offer cost x k e (held from (j / 4))) (lawful.no_letter (j / 4) (j % 4) (omega arith)))
+  letters_more : (s a : ℕ) → a ≤ 4 → fold more (scan f (s * 4)) (flat_map (λ l. listed s l (d.branch s l)) (below a)) ≡ scan f (s * 4 + a)
+  letters_more s zero h = ap (scan f) (let e : s * 4 ≡ s * 4 + 0 = omega arith in e)
+  letters_more s (suc a) h =
+      let h4 : a < 4 = omega arith in
+      ap (fold more (scan f (s * 4))) (sym (flat_map_more (λ l. listed s l (d.branch s l)) [] (below a) a))
+      ∙ fold-append more (scan f (s * 4)) (flat_map (λ l. listed s l (d.branch s l)) (below a)) (listed s a (d.branch s a))
+      ∙ ap (λ o. fold more o (listed s a (d.branch s a))) (letters_more s a (omega arith))
+      ∙ one_more (scan f (s * 4 + a)) s a (d.branch s a)
+      ∙ ap (pick (scan f (s * 4 + a)) (s * 4 + a)) (sym (offered_at s a h4))
+      ∙ ap (scan f) (let e : suc (s * 4 + a) ≡ s * 4 + suc a = omega arith in e)
 
-        end : (a < 4) ⊎ (4 ≤ a) → s * 4 + a + (4 - a) ≡ (s + 1) * 4
-        end o = omega arith
+  -- the letters that are left have no branch
+  state_more : (s : ℕ) → fold more (scan f (s * 4)) (branches_from d s) ≡ scan f (suc s * 4)
+  unfolding branches_from
+  state_more s =
+      let few : d.letters ≤ 4 = lawful.few_letters in
+      letters_more s d.letters few
+      ∙ scan_idle f (s * 4 + d.letters) (4 - d.letters) (λ j l m. ap (λ e. offer cost x t e (row (j / 4))) (lawful.no_letter (j / 4) (j % 4) (omega arith)))
+      ∙ ap (scan f) (let e : s * 4 + d.letters + (4 - d.letters) ≡ suc s * 4 = omega arith in e)
 
-    -- a state that no path has reached
-    pub state_none : (s : ℕ) (row : List (Option ℕ)) (bytes : List ℕ) → held from s ≡ None → Kept d.states (so_far d cost x from (s * 4)) row bytes → Kept d.states (so_far d cost x from ((s + 1) * 4)) row bytes
-    state_none s row bytes e kept = kept_same d.states (so_far d cost x from (s * 4)) (so_far d cost x from ((s + 1) * 4)) row bytes (λ k. idle k ∙ ap (λ j. so_far d cost x from j k) (let z : s * 4 + 4 ≡ (s + 1) * 4 = omega arith in z)) kept
-      where
-        idle : (k : ℕ) → so_far d cost x from (s * 4) k ≡ so_far d cost x from (s * 4 + 4) k
-        idle k = scan_idle (offered d cost x (held from) k) (s * 4) 4
-            (λ j l m. ap (offer cost x k (d.branch (j / 4) (j % 4))) (ap (held from) (let z : j / 4 ≡ s = omega arith in z) ∙ e) ∙ offer_none cost x k (d.branch (j / 4) (j % 4)))
+  states_more : (n : ℕ) → fold more None (flat_map (branches_from d) (below n)) ≡ scan f (n * 4)
+  states_more zero = refl
+  states_more (suc n) =
+      ap (fold more None) (sym (flat_map_more (branches_from d) [] (below n) n))
+      ∙ fold-append more None (flat_map (branches_from d) (below n)) (branches_from d n)
+      ∙ ap (λ o. fold more o (branches_from d n)) (states_more n)
+      ∙ state_more n
 
-    -- all states
-    pub states_all : (s : ℕ) (row : List (Option ℕ)) (bytes : List ℕ) → s ≡ d.states → Kept d.states (so_far d cost x from (s * 4)) row bytes → Kept d.states (best d cost x (held from)) row bytes
-    unfolding best
-    states_all s row bytes e kept = subst (λ j. Kept d.states (so_far d cost x from (j * 4)) row bytes) e kept
+  best_same : best_of cost x row (branches_of d) t ≡ best d cost x row t
+  unfolding best_of best branches_of
+  best_same = states_more d.states
+
+pub kept_best : (d : Diagram) → Lawful d → (cost : ℤ → ℤ → ℕ) (x : ℤ) (from row bytes : List ℕ) (n : ℕ) (bs : List ListedBranch) → bs ≡ branches_of d → KeptNumbers n (best_of cost x (reached_at from) bs) row bytes → KeptNumbers n (best d cost x (reached_at from)) row bytes
+kept_best d lawful cost x from row bytes n bs e kept =
+    kept_same n (best_of cost x (reached_at from) bs) (best d cost x (reached_at from)) row bytes (λ k. ap (λ z. best_of cost x (reached_at from) z k) e ∙ best_same d lawful cost x (reached_at from) k) kept

@@ -1,14 +1,17 @@
 -- Ranks over all samples and over all permitted ends.
-use Rattle.std.proofs.Common.{◌≡◌, ℕ, ◌+◌, ◌%◌, ◌^◌, ◌<◌, ◌≤◌, min, true, false, cond, List, length, get_or, take, ℤ, pos, negsuc, Some, None, Option, unwrap_or, sym, refl, ap, ◌∙◌, ap₂, inl, inr, mod-eq_of_lt, arith, w16, SFits}
-use Rattle.std.proofs.lemmas.List.{take_more}
+use Rattle.std.proofs.Common.{◌≡◌, ℕ, ◌+◌, ◌*◌, ◌%◌, ◌^◌, ◌<◌, ◌≤◌, min, true, false, cond, List, [], ◌∷◌, ◌++◌, length, map, get_or, take, ℤ, pos, negsuc, Some, None, Option, unwrap_or, sym, refl, ap, ◌∙◌, subst, ap₂, inl, inr, mod-eq_of_lt, arith, length-take, w16, SFits}
+use Rattle.std.proofs.lemmas.List.{take_more, get_or-map, length-map}
+use Rattle.std.proofs.lemmas.List.FromFn.{get_or-map-range_with_len, length-map-range_with_len}
 use Rattle.std.proofs.lemmas.Int.{ints}
 use Rattle.std.proofs.lemmas.Bool.{cases_lt}
-use Rattle.std.specs.List.{AllByRecursion}
+use Rattle.std.specs.List.{AllByRecursion, range_with_len}
 use Rattle.model.specs.Ranges.{InRange, most_cost}
 use Rattle.model.specs.Trellises.{Diagram, Lawful}
 use Rattle.algebras.specs.Numbers.{inf}
 use Rattle.algebras.specs.Semirings.{Semiring, Laws}
 use Rattle.algebras.specs.CostCounts.{cheapest_with_count}
+use Rattle.algebras.specs.CostCountLaws.{cost_count_laws}
+use Rattle.algebras.specs.TwoLaws.{two_laws}
 use Rattle.algebras.specs.TwoCosts.{two_cheapest}
 use Rattle.paths.specs.Paths.{Path, permits, path_cost}
 use Rattle.paths.specs.Sums.{path_sum}
@@ -18,35 +21,31 @@ use Rattle.paths.specs.Branches.{branches_of}
 use Rattle.paths.specs.Recursion.{after, opened}
 use Rattle.paths.proofs.Totals.{plus_zero, total_more, total_below}
 use Rattle.paths.proofs.Branching.{all_bring}
-use Rattle.paths.proofs.Running.{stepped_same, after_same}
+use Rattle.paths.proofs.Running.{stepped_same}
 use Rattle.paths.proofs.Summing.{answer, entry, after_push}
 use Rattle.paths.proofs.Reading.{count_low}
 use Rattle.paths.proofs.Firsts.{second_found}
 use Rattle.paths.proofs.Sayings.{first_says_below_inf, costs_bounded}
 use Rattle.survivors.specs.declared.rank.Rank.{Rank}
-use Rattle.survivors.specs.Reaches.{unreached, as_cost}
-use Rattle.survivors.specs.Ranks.{widened, tied, two, past, opening_rank, Brought, Summed, gathered}
-use Rattle.survivors.proofs.RankRowing.{as_below, as_above}
-use Rattle.survivors.proofs.Ranking.{wide_low, wide_high, two_second}
+use Rattle.survivors.specs.Choices.{Costs, CostsOf}
+use Rattle.survivors.specs.Survivors.{best}
+use Rattle.survivors.specs.Reaches.{unreached, as_cost, reached_at, KeptNumbers}
+use Rattle.survivors.specs.Ranks.{widened, tied, two, nowhere, Sound, past, costs_in, Brought, Advanced, opening_rank, Summed, Ranked, gathered}
+use Rattle.survivors.proofs.Rowing.{as_below, as_above, kept_best}
+use Rattle.survivors.proofs.Tabling.{costed_none, costed_more}
+use Rattle.survivors.proofs.Ranking.{wide_low, wide_high, two_second, sounds_more, sound_nowhere, cost_at, opening_reached}
 
 -- ---- over the samples
 
 module _ {W : Type 0} (r : Semiring W) (laws : Laws r) (g : Rank → W) (cost : ℤ → ℤ → ℕ) (d : Diagram) (lawful : Lawful d) where
-  pub rank_more : (f : ℕ → W) (xs : List ℤ) (k : ℕ) (row next : List Rank) → k < length xs →
-      ((s : ℕ) → s < d.states → g (get_or row s past) ≡ after d cost r f (take k xs) s) → Brought r g cost (get_or xs k (pos 0)) row (branches_of d) next →
-      (s : ℕ) → s < d.states → g (get_or next s past) ≡ after d cost r f (take (k + 1) xs) s
-  rank_more f xs k row next lt old new s l =
-      let x = get_or xs k (pos 0) in
-      new s (omega (arith, lawful.few_states)) ∙ all_bring r laws cost d x (λ t. g (get_or row t past)) s
-      ∙ stepped_same r laws cost d lawful x (λ t. g (get_or row t past)) (after d cost r f (take k xs)) old s
-      ∙ sym (ap (λ h. h s) (ap (after d cost r f) (take_more xs k (pos 0) lt) ∙ after_push d cost r laws f (take k xs) x))
+  summed_none : (start : Option ℕ) (row : List Rank) → ((k : ℕ) → k < 64 → get_or row k past ≡ opening_rank start k) → ((k : ℕ) → g (opening_rank start k) ≡ opened r start k) → Summed r g d cost start [] row
+  summed_none start row begins opens s l = ap g (begins s (omega (arith, lawful.few_states))) ∙ opens s ∙ sym (entry d cost r laws lawful start s [] l)
 
-  pub rank_sums : (start : Option ℕ) (xs : List ℤ) (first row : List Rank) → ((k : ℕ) → k < 64 → get_or first k past ≡ opening_rank start k) → ((k : ℕ) → g (opening_rank start k) ≡ opened r start k) →
-      ((s : ℕ) → s < d.states → g (get_or row s past) ≡ after d cost r (λ t. g (get_or first t past)) xs s) → Summed r g d cost start xs row
-  rank_sums start xs first row begins opens runs s l =
-      runs s l
-      ∙ after_same r laws cost d lawful xs (λ t. g (get_or first t past)) (opened r start) (λ t m. ap g (begins t (omega (arith, lawful.few_states))) ∙ opens t) s l
-      ∙ sym (entry d cost r laws lawful start s xs l)
+  summed_more : (start : Option ℕ) (xs : List ℤ) (x : ℤ) (row next : List Rank) → Summed r g d cost start xs row → Brought r g cost x row (branches_of d) next → Summed r g d cost start (xs ++ x ∷ []) next
+  summed_more start xs x row next old new s l =
+      new s (omega (arith, lawful.few_states)) ∙ all_bring r laws cost d x (λ t. g (get_or row t past)) s
+      ∙ stepped_same r laws cost d lawful x (λ t. g (get_or row t past)) (after d cost r (opened r start) xs) (λ t m. old t m ∙ entry d cost r laws lawful start t xs m) s
+      ∙ sym (entry d cost r laws lawful start s (xs ++ x ∷ []) l ∙ ap (λ h. h s) (after_push d cost r laws (opened r start) xs x))
 
   -- over the permitted ends
   pub gathered_sum : (start end : Option ℕ) (xs : List ℤ) (row : List Rank) (n : ℕ) → n ≡ d.states → Summed r g d cost start xs row → gathered r g end row n ≡ path_sum d cost r start end xs
@@ -56,11 +55,53 @@ module _ {W : Type 0} (r : Semiring W) (laws : Laws r) (g : Rank → W) (cost : 
       (λ s l. ap (λ y. cond (permits end s) y r.zero) (sums s l ∙ entry d cost r laws lawful start s xs l))
       ∙ sym (answer d cost r laws lawful start end xs)
 
-pub opening_tied : (start : Option ℕ) (k : ℕ) → tied (opening_rank start k) ≡ opened cheapest_with_count start k
+opening_tied : (start : Option ℕ) (k : ℕ) → tied (opening_rank start k) ≡ opened cheapest_with_count start k
 opening_tied start k = elim (permits start k) as (λ b. tied (cond b (record { cost = 0; count = 1; second = unreached; spare = 0 }) (record { cost = unreached; count = 0; second = unreached; spare = 0 })) ≡ cond b cheapest_with_count.one cheapest_with_count.zero) [ true ↦ refl | false ↦ refl ]
 
-pub opening_two : (start : Option ℕ) (k : ℕ) → two (opening_rank start k) ≡ opened two_cheapest start k
+opening_two : (start : Option ℕ) (k : ℕ) → two (opening_rank start k) ≡ opened two_cheapest start k
 opening_two start k = elim (permits start k) as (λ b. two (cond b (record { cost = 0; count = 1; second = unreached; spare = 0 }) (record { cost = unreached; count = 0; second = unreached; spare = 0 })) ≡ cond b two_cheapest.one two_cheapest.zero) [ true ↦ refl | false ↦ refl ]
+
+opening_sound : (start : Option ℕ) (k : ℕ) → Sound 0 (opening_rank start k)
+opening_sound start k = elim (permits start k) as (λ b. Sound 0 (cond b (record { cost = 0; count = 1; second = unreached; spare = 0 }) nowhere)) [
+  | true ↦ record { sorted = omega arith; capped = omega arith; low_cost = λ l. omega arith; low_second = λ l. absurd (omega arith) }
+  | false ↦ sound_nowhere 0
+]
+
+module _ (d : Diagram) (lawful : Lawful d) (cost : ℤ → ℤ → ℕ) (start : Option ℕ) where
+  pub ranked_none : (row : List Rank) → row ≡ map (opening_rank start) (range_with_len 0 64) → Ranked d cost start [] row
+  ranked_none row e =
+      let at : (k : ℕ) → k < 64 → get_or row k past ≡ opening_rank start k = λ k l. ap (λ z. get_or z k past) e ∙ get_or-map-range_with_len (opening_rank start) 0 64 k k past l (omega arith) in
+      let long : length row ≡ 64 = ap length e ∙ length-map-range_with_len (opening_rank start) 0 64 in
+      record {
+        costs = costed_none d cost start (costs_in row) (λ k l. let m : k < 64 = omega (arith, lawful.few_states) in opening_reached start row k long m (at k m));
+        tied = summed_none cheapest_with_count cost_count_laws tied cost d lawful start row at (opening_tied start);
+        two = summed_none two_cheapest two_laws two cost d lawful start row at (opening_two start);
+        sounds = λ k l. subst (Sound 0) (sym (at k l)) (opening_sound start k);
+      }
+
+  module _ (xs : List ℤ) (k : ℕ) (lt : k < length xs) (row next : List Rank) (bytes : List ℕ) (step : Advanced cost (get_or xs k (pos 0)) row (branches_of d) next bytes) where
+    pub kept_step : KeptNumbers 64 (best d cost (get_or xs k (pos 0)) (reached_at (costs_in row))) (costs_in next) bytes
+    kept_step = kept_best d lawful cost (get_or xs k (pos 0)) (costs_in row) (costs_in next) bytes 64 (branches_of d) refl step.kept
+
+    pub ranked_more : Ranked d cost start (take k xs) row → Ranked d cost start (take (k + 1) xs) next
+    ranked_more old =
+        let x = get_or xs k (pos 0) in
+        let more : take k xs ++ x ∷ [] ≡ take (k + 1) xs = sym (take_more xs k (pos 0) lt) in
+        record {
+          costs = costed_more d lawful cost start xs k lt (costs_in row) (costs_in next) bytes old.costs kept_step;
+          tied = subst (λ ys. Summed cheapest_with_count tied d cost start ys next) more (summed_more cheapest_with_count cost_count_laws tied cost d lawful start (take k xs) x row next old.tied step.tied);
+          two = subst (λ ys. Summed two_cheapest two d cost start ys next) more (summed_more two_cheapest two_laws two cost d lawful start (take k xs) x row next old.two step.two);
+          sounds = sounds_more (length (take k xs) * most_cost + most_cost) (length (take (k + 1) xs) * most_cost) next (simp length-take (omega arith)) (step.sounds (length (take k xs) * most_cost) old.sounds);
+        }
+
+  -- the costs of a row, as the code answers them
+  pub costs_of : (xs : List ℤ) (row : List Rank) (costs : List (Option ℕ)) → length row ≡ 64 → Ranked d cost start xs row → costs ≡ map (λ a. as_cost a.cost) row → CostsOf d cost start xs costs
+  costs_of xs row costs len of e = record {
+    size = ap length e ∙ simp length-map len;
+    costs = λ s l.
+        let m : s < length row = omega (arith, lawful.few_states) in
+        subst (Costs d cost start xs s) (sym (ap (λ z. get_or z s None) e ∙ get_or-map (λ a. as_cost a.cost) row s past None m ∙ sym (ap as_cost (cost_at row s m)))) (of.costs s l);
+  }
 
 -- ---- over the permitted ends, one state more
 

@@ -1,19 +1,31 @@
 -- The table of bytes, one step after another.
-use Rattle.std.proofs.Common.{◌≡◌, ℕ, ◌+◌, ◌*◌, ◌<◌, ◌≤◌, Bool, true, false, cond, List, [], ◌∷◌, ◌++◌, length, get_or, take, drop, replicate, ℤ, pos, Some, None, Option, sym, refl, ap, ◌∙◌, subst, inl, inr, arith, length-take, get_or-drop, get_or-take, rules, below_more}
+use Rattle.std.proofs.Common.{◌≡◌, ℕ, zero, suc, ◌+◌, ◌*◌, ◌<◌, ◌≤◌, List, [], ◌∷◌, ◌++◌, length, get_or, take, drop, replicate, ℤ, pos, Option, sym, ap, ◌∙◌, subst, inl, inr, arith, length-take, get_or-drop, get_or-take, rules, below_more}
 use lib.ListN.{length-replicate}
+use denote.Param.Members.{Mut, Called}
 use borrow.Rule.Slice.PartMut.{put_mid}
 use Rattle.std.proofs.slice.Indexed.{places}
 use Rattle.std.proofs.lemmas.List.{take_more, get_or_past, get_or-replicate}
 use Rattle.std.proofs.lemmas.Bool.{cases_lt}
-use Rattle.model.specs.Ranges.{most_cost}
+use Rattle.std.specs.Array.{IsFromFnResultFrom}
 use Rattle.model.specs.Trellises.{Diagram, Lawful}
-use Rattle.paths.specs.Paths.{permits}
 use Rattle.survivors.specs.Choices.{Chosen, Costs, TableOf, byte_at}
 use Rattle.survivors.specs.Survivors.{best, byte_in, opening}
-use Rattle.survivors.specs.Rows.{held, Kept, Low, Rising, Zeros, Costed, Tabled}
-use Rattle.paths.proofs.Listing.{never}
-use Rattle.survivors.proofs.Pushes.{same_some}
+use Rattle.survivors.specs.Rows.{Zeros, Tabled}
+use Rattle.survivors.specs.Reaches.{reached_at, KeptNumbers, CostedNumbers}
 use Rattle.survivors.proofs.Bests.{best_costs, best_chosen, best_past, opening_costs}
+
+-- ---- an array made from a function of the index
+
+-- calls that keep I of the closure and answer v of each index
+pub from_fn_gives : {F B : Type 0} (g : Mut F (ℕ × Unit {0}) B) (v : ℕ → B) (I : F → Type 0) → ((f : F) (i : ℕ) (r : B) (q : F) → Called g f (i, tt) r q → I f → (r ≡ v i) × I q) →
+    (f : F) (ys : List B) (i n : ℕ) → I f → IsFromFnResultFrom g f ys i n → (k : ℕ) (d : B) → i ≤ k → k < i + n → get_or ys k d ≡ v k
+from_fn_gives g v I step f ys i zero h each k d le lt = absurd (omega arith)
+from_fn_gives {F} {B} g v I step f ys i (suc n) h each k d le lt =
+    let one = step f i each.1 each.0 each.3 h in
+    elim (cases_lt i k) [
+      | inl l ↦ from_fn_gives g v I step each.0 ys (i + 1) n one.1 each.4 k d (omega arith) (omega arith)
+      | inr l ↦ let e : k ≡ i = omega arith in ap (λ j. get_or ys j d) e ∙ each.2.1 d ∙ one.0 ∙ sym (ap v e)
+    ]
 
 -- ---- a part of the table
 
@@ -35,33 +47,23 @@ zeros_part a k table h i = elim (cases_lt i k) [
 
 -- ---- before any sample
 
-pub costed_none : (d : Diagram) (cost : ℤ → ℤ → ℕ) (start : Option ℕ) (row : List (Option ℕ)) → ((k : ℕ) → k < d.states → held row k ≡ opening start k) → Costed d cost start [] row
+pub costed_none : (d : Diagram) (cost : ℤ → ℤ → ℕ) (start : Option ℕ) (row : List ℕ) → ((k : ℕ) → k < d.states → reached_at row k ≡ opening start k) → CostedNumbers d cost start [] row
 costed_none d cost start row h s l = subst (Costs d cost start [] s) (sym (h s l)) (opening_costs d cost start s l)
-
-pub low_none : (n : ℕ) (start : Option ℕ) (row : List (Option ℕ)) → ((k : ℕ) → k < n → held row k ≡ opening start k) → Low n (0 * most_cost) row
-low_none n start row h k c l e = go (permits start k) (sym (h k l) ∙ e)
-  where
-    go : (b : Bool) → cond b (Some 0) None ≡ Some c → c ≤ 0
-    go true f = let z : 0 ≡ c = same_some refl f in omega arith
-    go false f = absurd (never f refl)
 
 -- ---- one sample more
 
-module _ (d : Diagram) (lawful : Lawful d) (cost : ℤ → ℤ → ℕ) (start : Option ℕ) (xs : List ℤ) (k : ℕ) (lt : k < length xs) (row next row' : List (Option ℕ)) (bytes : List ℕ)
-    (at : Costed d cost start (take k xs) row) (kept : Kept d.states (best d cost (get_or xs k (pos 0)) (held row)) next bytes) (copied : (s : ℕ) → s < d.states → held row' s ≡ held next s) where
+module _ (d : Diagram) (lawful : Lawful d) (cost : ℤ → ℤ → ℕ) (start : Option ℕ) (xs : List ℤ) (k : ℕ) (lt : k < length xs) (row next bytes : List ℕ)
+    (at : CostedNumbers d cost start (take k xs) row) (kept : KeptNumbers 64 (best d cost (get_or xs k (pos 0)) (reached_at row)) next bytes) where
   more : take k xs ++ get_or xs k (pos 0) ∷ [] ≡ take (k + 1) xs
   more = sym (take_more xs k (pos 0) lt)
 
-  pub costed_more : Costed d cost start (take (k + 1) xs) row'
+  pub costed_more : CostedNumbers d cost start (take (k + 1) xs) next
   costed_more s l =
-      subst (λ ys. Costs d cost start ys s (held row' s)) more
-      (subst (Costs d cost start (take k xs ++ get_or xs k (pos 0) ∷ []) s) (sym (copied s l ∙ kept.cost s l)) (best_costs d lawful cost start (take k xs) (get_or xs k (pos 0)) (held row) at s))
-
-  pub low_more : Rising d.states row next → Low d.states (k * most_cost) row → Low d.states ((k + 1) * most_cost) row'
-  low_more rise low s c l e = let q : c ≤ k * most_cost + most_cost = rise (k * most_cost) low s c l (sym (copied s l) ∙ e) in omega arith
+      subst (λ ys. Costs d cost start ys s (reached_at next s)) more
+      (subst (Costs d cost start (take k xs ++ get_or xs k (pos 0) ∷ []) s) (sym (kept.cost s (omega (arith, lawful.few_states)))) (best_costs d lawful cost start (take k xs) (get_or xs k (pos 0)) (reached_at row) at s))
 
   module _ (table : List ℕ) (a w : ℕ) (from : a ≡ k * 64) (room : a ≤ length table) (wide : length bytes ≡ 64) where
-    here : (s : ℕ) → s < 64 → byte_at (put_mid a w table bytes) k s ≡ byte_in (best d cost (get_or xs k (pos 0)) (held row) s)
+    here : (s : ℕ) → s < 64 → byte_at (put_mid a w table bytes) k s ≡ byte_in (best d cost (get_or xs k (pos 0)) (reached_at row) s)
     here s l = ap (λ j. get_or (put_mid a w table bytes) (j + s) 0) (sym from) ∙ put_in a w table bytes s 0 (omega arith) room ∙ kept.byte s
 
     old : (j s : ℕ) → j < k → s < 64 → byte_at (put_mid a w table bytes) j s ≡ byte_at table j s
@@ -72,11 +74,11 @@ module _ (d : Diagram) (lawful : Lawful d) (cost : ℤ → ℤ → ℕ) (start :
       chosen = λ j s h l. below_more (λ i. (s : ℕ) → s < d.states → Chosen d cost start (take (i + 1) xs) s (byte_at (put_mid a w table bytes) i s)) k
           (λ i m s l. subst (Chosen d cost start (take (i + 1) xs) s) (sym (old i s m (omega (arith, lawful.few_states)))) (tab.chosen i s m l))
           (λ s l. subst (λ ys. Chosen d cost start ys s (byte_at (put_mid a w table bytes) k s)) more
-          (subst (Chosen d cost start (take k xs ++ get_or xs k (pos 0) ∷ []) s) (sym (here s (omega (arith, lawful.few_states)))) (best_chosen d lawful cost start (take k xs) (get_or xs k (pos 0)) (held row) at s)))
+          (subst (Chosen d cost start (take k xs ++ get_or xs k (pos 0) ∷ []) s) (sym (here s (omega (arith, lawful.few_states)))) (best_chosen d lawful cost start (take k xs) (get_or xs k (pos 0)) (reached_at row) at s)))
           j h s l;
       no_state = λ j s h l m. below_more (λ i. byte_at (put_mid a w table bytes) i s ≡ 0) k
           (λ i n. old i s n m ∙ tab.no_state i s n l m)
-          (here s m ∙ best_past d lawful cost start (take k xs) (get_or xs k (pos 0)) (held row) at s l)
+          (here s m ∙ best_past d lawful cost start (take k xs) (get_or xs k (pos 0)) (reached_at row) at s l)
           j h;
     }
 

@@ -2,6 +2,7 @@
 use Rattle.std.proofs.Common.{◌≡◌, ℕ, zero, suc, ◌-◌, ◌/◌, ◌%◌, ◌<◌, ◌≤◌, Bool, true, false, cond, ltb, leb, ◌⊎◌, List, [], ◌∷◌, ◌++◌, length, get_or, take, drop, set, ℤ, Some, None, Option, sym, refl, ap, ◌∙◌, subst, inl, inr, append_assoc, add-one, arith, take_all, lt-ltb}
 use Rattle.std.proofs.lemmas.List.{drop-set}
 use Rattle.std.proofs.lemmas.Bool.{and_from, and_parts, le-leb, ltb-true, leb-true}
+use Rattle.std.specs.Option.{option_map}
 use Rattle.model.specs.Trellises.{Diagram, Lawful}
 use Rattle.paths.specs.Paths.{Path, Admissible, along, reached, permits, path_cost}
 use Rattle.paths.specs.Laws.{First, HasNoPath, IsFirst}
@@ -9,7 +10,8 @@ use Rattle.survivors.specs.Choices.{place, byte_at, CostsOf, cost_of}
 use Rattle.survivors.specs.Laws.{first_back, letters_back, path_back}
 use Rattle.survivors.specs.Survivors.{scan, at_end}
 use Rattle.survivors.specs.Rows.{held}
-use Rattle.survivors.specs.Traces.{in_table, traced_first, traced_letters, Traced}
+use Rattle.survivors.specs.declared.ending.Ending.{Ending}
+use Rattle.survivors.specs.Traces.{in_table, traced_first, traced_letters, Traced, cost_and_last, Ends}
 use Rattle.paths.proofs.Listing.{never}
 use Rattle.survivors.proofs.Pushes.{same_some, arrives, branch_low}
 use Rattle.survivors.proofs.Scans.{Least, scan_least}
@@ -102,13 +104,13 @@ module _ (d : Diagram) (lawful : Lawful d) (end : Option ℕ) (row : List (Optio
       go None g e = absurd (g q h)
       go (Some p) g e = (path_cost d cost xs p, e)
 
-  pub none_left : Least (at_end end (held row)) d.states None → HasNoPath d start end (length xs)
+  none_left : Least (at_end end (held row)) d.states None → HasNoPath d start end (length xs)
   none_left least q h =
       let m = ends_at d start end (length xs) q h in
       let c = held_some q m.0 m.1 in
       never (at_end_made end (held row) m.0 c.0 m.2 c.1) (least m.0 (arrives_low d lawful start (length xs) m.0 q m.1))
 
-  pub one_left : (c t : ℕ) → Least (at_end end (held row)) d.states (Some (c, t)) → (p : Path) × First d cost start end xs p × First d cost start (Some t) xs p × (path_cost d cost xs p ≡ c)
+  one_left : (c t : ℕ) → Least (at_end end (held row)) d.states (Some (c, t)) → (p : Path) × First d cost start end xs p × First d cost start (Some t) xs p × (path_cost d cost xs p ≡ c)
   one_left c t least =
       let a = at_end_says end (held row) t c least.1 in
       let k = path_known d cost start xs t c (held row t) (of.costs t least.0) a.1 in
@@ -122,5 +124,9 @@ module _ (d : Diagram) (lawful : Lawful d) (end : Option ℕ) (row : List (Optio
           elim (least.2 u l (path_cost d cost xs q) h) [ inl m ↦ inl (subst (λ z. z < path_cost d cost xs q) (sym e) m) | inr m ↦ inr (e ∙ m.0, m.1) ]
 
 -- what the scan of the costs found
-pub scan_says : (f : ℕ → Option ℕ) (m n : ℕ) (o : Option (ℕ × ℕ)) → m ≡ n → o ≡ scan f m → Least f n o
+scan_says : (f : ℕ → Option ℕ) (m n : ℕ) (o : Option (ℕ × ℕ)) → m ≡ n → o ≡ scan f m → Least f n o
 scan_says f m n o e q = subst (λ j. Least f j o) e (subst (Least f m) (sym q) (scan_least f m))
+
+pub ends_from : (d : Diagram) → Lawful d → (end : Option ℕ) (row : List (Option ℕ)) (n : ℕ) → n ≡ d.states → (e : Option Ending) → option_map cost_and_last e ≡ scan (at_end end (held row)) n → Ends d end row e
+ends_from d lawful end row n same None found cost start xs of = none_left d lawful end row cost start xs of (scan_says (at_end end (held row)) n d.states None same found)
+ends_from d lawful end row n same (Some e) found cost start xs of = one_left d lawful end row cost start xs of e.cost e.last (scan_says (at_end end (held row)) n d.states (Some (e.cost, e.last)) same found)

@@ -1,6 +1,5 @@
 -- Rows of costs as plain numbers, one of which stands for none.
-use Rattle.std.specs.Prelude.{◌≡◌, ℕ, ◌+◌, ◌^◌, ◌<◌, ◌≤◌, cond, List, ℤ, Some, None, Option, nat_lt, slice_index}
-use Rattle.model.specs.Ranges.{most_cost}
+use Rattle.std.specs.Prelude.{◌≡◌, ℕ, ◌^◌, ◌<◌, ◌≤◌, cond, List, ℤ, Some, None, Option, nat_lt, slice_index}
 use Rattle.model.specs.Trellises.{Diagram}
 use Rattle.survivors.specs.Choices.{Costs}
 use Rattle.survivors.specs.Survivors.{cost_in, byte_in}
@@ -25,14 +24,6 @@ pub record KeptNumbers (n : ℕ) (f : ℕ → Option (ℕ × ℕ)) (row bytes : 
 -- no number in the first n places of the row is above that for no cost
 abbrev pub Capped : ℕ → List ℕ → Type 0
 Capped n row = (k : ℕ) → k < n → slice_index row k ≤ unreached
-
--- no cost in the first n places of the row is above b
-abbrev pub LowNumbers : ℕ → ℕ → List ℕ → Type 0
-LowNumbers n b row = (k c : ℕ) → k < n → reached_at row k ≡ Some c → c ≤ b
-
--- where no cost in a row is above b, one sample later none is above b by more than a step costs
-abbrev pub RisingNumbers : ℕ → List ℕ → List ℕ → Type 0
-RisingNumbers n from row = (b : ℕ) → LowNumbers n b from → LowNumbers n (b + most_cost) row
 
 -- the costs after the samples xs
 abbrev pub CostedNumbers : Diagram → (ℤ → ℤ → ℕ) → Option ℕ → List ℤ → List ℕ → Type 0

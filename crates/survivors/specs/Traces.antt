@@ -26,6 +26,10 @@ abbrev pub Traced : List ℕ → ℕ → List ℕ → Option ℕ → Type 0
 Traced table last letters first = (d : Diagram) → Lawful d → (cost : ℤ → ℤ → ℕ) (start : Option ℕ) (xs : List ℤ) → TableOf d cost start xs table → length xs ≡ length letters →
     (p : Path) → First d cost start (Some last) xs p → (first ≡ Some p.first) × (letters ≡ p.letters)
 
+-- an end as a scan over the costs of the states finds it
+abbrev pub cost_and_last : Ending → ℕ × ℕ
+cost_and_last e = (e.cost, e.last)
+
 -- the last state and the cost of the first path over all permitted ends, nothing where there is no admissible path
 abbrev pub EndsAt : Diagram → (ℤ → ℤ → ℕ) → Option ℕ → Option ℕ → List ℤ → Option Ending → Type 0
 EndsAt d cost start end xs None = HasNoPath d start end (length xs)

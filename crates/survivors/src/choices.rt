@@ -1,91 +1,116 @@
 // The survivor pass over all samples.
-ghost use Rattle.std.specs.Prelude.{◌≡◌, ℕ, ◌*◌, ◌<◌, ◌≤◌, length, take, replicate, slice_index};
+ghost use Rattle.std.specs.Prelude.{◌≡◌, ℕ, ◌*◌, ◌≤◌, length, map, take, replicate, slice_index};
+ghost use Rattle.std.specs.List.{AllByRecursion, range_with_len};
+ghost use Rattle.model.specs.Ranges.{InRange};
 ghost use Rattle.model.specs.Trellises.{most_states};
 ghost use Rattle.survivors.specs.Choices.{most_samples, TableOf, CostsOf};
-ghost use Rattle.survivors.specs.Survivors.{opening};
-ghost use Rattle.survivors.specs.Rows.{held, Zeros, Costed, Tabled};
+ghost use Rattle.survivors.specs.Reaches.{as_cost};
+ghost use Rattle.survivors.specs.Ranks.{opening_rank, Ranked};
+ghost use Rattle.survivors.specs.Rows.{Zeros, Tabled};
 
+use crate::costs::as_cost;
 use crate::layout::{MOST_SAMPLES, MOST_STATES, TABLE_SIZE, place_of};
-use crate::step::advance;
+use crate::rank::Rank;
+use crate::ranks::{NOWHERE, advance_ranks};
 use model::measure::Measure;
 use model::trellis::Trellis;
 use paths::anchor::is_permitted;
+use paths::branches::list_branches;
+use std::array;
 
-// The costs before any sample: nothing for a permitted start, and none for any other state.
-fn open_costs(row: &mut [Option<u64>], n: usize, start: Option<usize>)
-    requires { n ≤ length row.old }
-    ensures { (k : ℕ) → k < n → held row.new k ≡ opening start k }
+// The rank of a state before any sample: one path without steps to a permitted start, and none to any other state.
+fn opening_rank(start: Option<usize>, state: usize) -> Rank
+    ensures { result ≡ opening_rank start state }
 {
-    for i in 0..n {
-        row[i] = if is_permitted(start, i) {
-            Some(0)
-        } else {
-            None
-        };
+    if is_permitted(start, state) {
+        Rank {
+            cost: 0,
+            count: 1,
+            ..NOWHERE
+        }
+    } else {
+        NOWHERE
     }
 }
 
-// Copies the first n costs.
-fn copy_costs(row: &mut [Option<u64>], from: &[Option<u64>], n: usize)
-    requires row { n ≤ length row.old }
-    requires from { n ≤ length from.now }
-    ensures { (k : ℕ) → k < n → held row.new k ≡ held from.now k }
+// That of each state.
+fn open_ranks(start: Option<usize>) -> [Rank; MOST_STATES]
+    ensures { result ≡ map (opening_rank start) (range_with_len 0 most_states) }
 {
-    for i in 0..n {
-        row[i] = from[i];
-    }
+    array::from_fn(|state| opening_rank(start, state))
 }
 
 // Makes every byte 0.
-pub(crate) fn clear_bytes(bytes: &mut [u8])
+fn clear_bytes(bytes: &mut [u8])
     ensures { bytes.new ≡ replicate (length bytes.old) 0 }
 {
     bytes.fill(0);
 }
 
-// The bytes of all steps into a table of zeros, and the costs after the last step.
-fn advance_all<T: Trellis, M: Measure>(
+// The samples that a table has room for.
+#[tactic(auto, using(std::proofs::lemmas::List::take_min))]
+fn counted(samples: &[i16]) -> &[i16]
+    ensures { result.now ≡ take most_samples samples.now }
+{
+    &samples[..MOST_SAMPLES.min(samples.len())]
+}
+
+// The bytes of all steps into a table of zeros; answers the ranks after the last step.
+fn rank_all<T: Trellis, M: Measure>(
     trellis: &T,
     measure: &M,
     samples: &[i16],
     start: Option<usize>,
-    row: &mut [Option<u64>],
-    next: &mut [Option<u64>],
     choices: &mut [u8],
-)
-    requires row { (T.Trellis.meaning trellis.now).states ≤ length row.old }
-    requires next { (T.Trellis.meaning trellis.now).states ≤ length next.old }
+) -> [Rank; MOST_STATES]
     requires few { length samples.now ≤ most_samples }
     requires room { length samples.now * most_states ≤ length choices.old }
     requires zeros { Zeros choices.old }
-    ensures row { Costed (T.Trellis.meaning trellis.now) (M.Measure.costs measure.now) start samples.now row.new }
+    ensures ranked { Ranked (T.Trellis.meaning trellis.now) (M.Measure.costs measure.now) start samples.now result }
+    ensures range { AllByRecursion InRange samples.now }
     ensures table { Tabled (T.Trellis.meaning trellis.now) (M.Measure.costs measure.now) start samples.now (length samples.now) choices.new }
     ensures rest { (i : ℕ) → length samples.now * most_states ≤ i → slice_index choices.new i ≡ 0 }
 {
-    let n = trellis.states();
-    open_costs(row, n, start);
+    let list = list_branches(trellis);
+    let branches = list.as_slice();
+    let clear = [NOWHERE; MOST_STATES];
+    let mut row = open_ranks(start);
+    // By place: of bytes written through chunks_exact_mut a proof would know only how many there are.
     for (k, sample) in samples.iter().enumerate() {
         let from = place_of(k, 0);
-        advance(
-            trellis,
+        advance_ranks(
+            branches,
             measure,
             *sample,
-            row,
-            next,
+            &clear,
+            &mut row,
             &mut choices[from..from + MOST_STATES],
         );
-        copy_costs(row, next, n);
     }
+    row
 }
 
-// The samples that a table has room for.
-pub(crate) fn counted(samples: &[i16]) -> &[i16]
-    ensures { result.now ≡ take most_samples samples.now }
+// Fills a table, whatever it held before; answers the ranks after the samples that count.
+pub(crate) fn fill<T: Trellis, M: Measure>(
+    trellis: &T,
+    measure: &M,
+    samples: &[i16],
+    start: Option<usize>,
+    choices: &mut [u8; TABLE_SIZE],
+) -> [Rank; MOST_STATES]
+    ensures table { TableOf (T.Trellis.meaning trellis.now) (M.Measure.costs measure.now) start (take most_samples samples.now) choices.new }
+    ensures ranked { Ranked (T.Trellis.meaning trellis.now) (M.Measure.costs measure.now) start (take most_samples samples.now) result }
+    ensures range { AllByRecursion InRange (take most_samples samples.now) }
 {
-    if samples.len() > MOST_SAMPLES {
-        return &samples[..MOST_SAMPLES];
-    }
-    samples
+    clear_bytes(choices);
+    rank_all(trellis, measure, counted(samples), start, choices)
+}
+
+// The costs of a row; read by place, since map would first copy the row, which was measured slower.
+pub(crate) fn rank_costs(row: &[Rank; MOST_STATES]) -> [Option<u64>; MOST_STATES]
+    ensures { result ≡ map (λ rank. as_cost rank.cost) row.now }
+{
+    array::from_fn(|state| as_cost(row[state].cost))
 }
 
 // Fills a table with the chosen branches: the byte of a step and a state, 0 where no path arrives there and where
@@ -101,17 +126,5 @@ pub fn choose<T: Trellis, M: Measure>(
     ensures table { TableOf (T.Trellis.meaning trellis.now) (M.Measure.costs measure.now) start (take most_samples samples.now) choices.new }
     ensures row { CostsOf (T.Trellis.meaning trellis.now) (M.Measure.costs measure.now) start (take most_samples samples.now) result }
 {
-    clear_bytes(choices);
-    let mut row = [None; MOST_STATES];
-    let mut next = [None; MOST_STATES];
-    advance_all(
-        trellis,
-        measure,
-        counted(samples),
-        start,
-        &mut row,
-        &mut next,
-        choices,
-    );
-    row
+    rank_costs(&fill(trellis, measure, samples, start, choices))
 }

@@ -1,8 +1,9 @@
 // The last state of the cheapest path, over all permitted ends.
 ghost use Rattle.std.specs.Prelude.{◌≡◌, ◌≤◌, length};
+ghost use Rattle.std.specs.Option.{option_map};
 ghost use Rattle.survivors.specs.Survivors.{pick, scan, at_end};
 ghost use Rattle.survivors.specs.Rows.{held};
-ghost use Rattle.survivors.specs.Traces.{Ends};
+ghost use Rattle.survivors.specs.Traces.{cost_and_last, Ends};
 
 use crate::ending::Ending;
 use crate::layout::MOST_STATES;
@@ -10,33 +11,24 @@ use model::trellis::Trellis;
 use paths::anchor::is_permitted;
 
 // The cheaper of two, and the one met first where they are equal.
-fn better(best: Option<(u64, usize)>, state: usize, cost: Option<u64>) -> Option<(u64, usize)>
-    ensures { result ≡ pick best state cost }
+fn better(best: Option<Ending>, last: usize, cost: Option<u64>) -> Option<Ending>
+    ensures { option_map cost_and_last result ≡ pick (option_map cost_and_last best) last cost }
 {
     match cost {
-        None => best,
-        Some(c) => match best {
-            None => Some((c, state)),
-            Some((least, first)) => {
-                if c < least {
-                    Some((c, state))
-                } else {
-                    Some((least, first))
-                }
-            }
-        },
+        Some(cost) if best.is_none_or(|least| cost < least.cost) => Some(Ending { last, cost }),
+        _ => best,
     }
 }
 
-// The least cost of a permitted last state, and the first state that has it.
-fn cheapest(row: &[Option<u64>], n: usize, end: Option<usize>) -> Option<(u64, usize)>
+// The least cost of a permitted last state among the first n, and the first state that has it.
+fn cheapest(row: &[Option<u64>], n: usize, end: Option<usize>) -> Option<Ending>
     requires { n ≤ length row.now }
-    ensures { result ≡ scan (at_end end (held row.now)) n }
+    ensures { option_map cost_and_last result ≡ scan (at_end end (held row.now)) n }
 {
     let mut best = None;
-    for state in 0..n {
+    for (state, cost) in row[..n].iter().enumerate() {
         if is_permitted(end, state) {
-            best = better(best, state, row[state]);
+            best = better(best, state, *cost);
         }
     }
     best
@@ -51,6 +43,5 @@ pub fn ending<T: Trellis>(
 ) -> Option<Ending>
     ensures { Ends (T.Trellis.meaning trellis.now) end row.now result }
 {
-    let (cost, last) = cheapest(row, trellis.states(), end)?;
-    Some(Ending { last, cost })
+    cheapest(row, trellis.states(), end)
 }

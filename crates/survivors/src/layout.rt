@@ -1,29 +1,20 @@
 // How a table of chosen branches is laid out: which byte stands for a branch, and where a byte lies.
 ghost use Rattle.std.specs.Prelude.{◌≡◌, ◌/◌, ◌%◌, ◌<◌};
 ghost use Rattle.model.specs.Trellises.{most_states, most_letters};
-ghost use Rattle.survivors.specs.Choices.{most_samples, place, byte_of};
+ghost use Rattle.survivors.specs.Choices.{most_samples, place};
 
-// The most samples that a table has bytes for, how many bytes each has, and how many bytes that is.
+// How many bytes each sample has in a table, the most samples that it has bytes for, and how many bytes that is.
+pub use model::trellis::MOST_STATES;
+
 pub const MOST_SAMPLES: usize = 512;
 
-pub const MOST_STATES: usize = 64;
-
-pub const TABLE_SIZE: usize = 32768;
-
-// The byte of a branch, from the state before it and its letter.
-pub(crate) fn branch_byte(state: usize, letter: usize) -> u8
-    requires state { state < most_states }
-    requires letter { letter < most_letters }
-    ensures { result ≡ byte_of state letter }
-{
-    (state * 4 + letter) as u8
-}
+pub const TABLE_SIZE: usize = MOST_SAMPLES * MOST_STATES;
 
 // The state before the branch that a byte stands for.
 pub(crate) fn state_before(byte: u8) -> usize
     ensures { result ≡ byte / most_letters }
 {
-    (byte / 4) as usize
+    usize::from(byte / 4)
 }
 
 // The letter of the branch that a byte stands for.

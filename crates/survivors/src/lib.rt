@@ -12,5 +12,4 @@ pub mod rank;
 mod ranks;
 pub mod standing;
 pub mod standings;
-mod step;
 pub mod traceback;

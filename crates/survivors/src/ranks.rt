@@ -1,20 +1,15 @@
-// One step of the survivor pass that also compares the paths to each state.
-ghost use Rattle.std.specs.Prelude.{◌≡◌, ℕ, ◌+◌, ◌^◌, ◌<◌, ◌≤◌, length, nat_lt, slice_index_or};
+// One step of the survivor pass: from the ranks of the states to those one sample later, with a byte for each state.
+ghost use Rattle.std.specs.Prelude.{◌≡◌, ◌+◌, ◌^◌, ◌<◌, ◌≤◌, length, nat_lt, replicate, if◌then◌else◌, slice_index_or, slice_set};
 ghost use Rattle.std.specs.List.{AllByRecursion};
-ghost use Rattle.model.specs.Ranges.{most_cost};
 ghost use Rattle.model.specs.Trellises.{most_states};
-ghost use Rattle.algebras.specs.CostCounts.{cheapest_with_count};
-ghost use Rattle.algebras.specs.TwoCosts.{two_cheapest};
-ghost use Rattle.paths.specs.Branches.{Within, branches_of};
-ghost use Rattle.survivors.specs.Survivors.{best, best_of};
+ghost use Rattle.paths.specs.Branches.{Within};
 ghost use Rattle.survivors.specs.Rows.{Zeros};
-ghost use Rattle.survivors.specs.Reaches.{reached_at, KeptNumbers};
-ghost use Rattle.survivors.specs.Ranks.{tied, two, nowhere, joined_rank, Sound, past, Sounds, costs_in, Brought};
+ghost use Rattle.survivors.specs.Ranks.{nowhere, joined_rank, Sound, past, Sounds, Advanced};
 
 use crate::costs::UNREACHED;
+use crate::layout::MOST_STATES;
 use crate::rank::Rank;
 use model::measure::Measure;
-use model::trellis::{MOST_STATES, Trellis};
 use paths::branch::ListedBranch;
 
 // No path.
@@ -48,16 +43,30 @@ pub(crate) fn join(held: &mut Rank, from: Rank, cost: u32) -> bool
     false
 }
 
-// A row with no path to any state.
-pub(crate) fn clear_row() -> [Rank; MOST_STATES]
-    ensures len { length result ≡ most_states }
-    ensures clear { (k : ℕ) → k < most_states → slice_index_or result k past ≡ nowhere }
+// Joins to the rank of a state what a branch into it brings from a rank, and puts its byte down where that is cheaper.
+fn put(
+    row: &mut [Rank; MOST_STATES],
+    bytes: &mut [u8],
+    branch: &ListedBranch,
+    from: Rank,
+    cost: u32,
+)
+    requires row { branch.now.next < length row.old }
+    requires bytes { branch.now.next < length bytes.old }
+    requires held { Sound (2 ^ 62) (slice_index_or row.old branch.now.next past) }
+    requires from { Sound (2 ^ 61) from }
+    ensures row { row.new ≡ slice_set row.old branch.now.next (joined_rank (slice_index_or row.old branch.now.next past) from cost) }
+    ensures bytes { bytes.new ≡ (if nat_lt (from.cost + cost) (slice_index_or row.old branch.now.next past).cost then slice_set bytes.old branch.now.next branch.now.byte else bytes.old) }
 {
-    [NOWHERE; MOST_STATES]
+    let next = branch.next as usize;
+    if join(&mut row[next], from, cost) {
+        bytes[next] = branch.byte;
+    }
 }
 
 // What the branches bring from the states that were reached, with the byte of the cheapest branch; among equals the
 // first stays.
+// The bound on the costs of a row grows with each sample: so it is asked for, and a row is no type with an invariant.
 fn extend<M: Measure>(
     branches: &[ListedBranch],
     measure: &M,
@@ -69,44 +78,34 @@ fn extend<M: Measure>(
     requires within { AllByRecursion (Within most_states most_states) branches.now }
     requires bytes { most_states ≤ length bytes.old }
     requires sounds { Sounds (2 ^ 61) from.now }
-    requires clear { (k : ℕ) → k < most_states → slice_index_or row.old k past ≡ nowhere }
+    requires clear { row.old ≡ replicate most_states nowhere }
     requires zeros { Zeros bytes.old }
-    ensures kept { KeptNumbers most_states (best_of (M.Measure.costs measure.now) sample (reached_at (costs_in from.now)) branches.now) (costs_in row.new) bytes.new }
-    ensures tied { Brought cheapest_with_count tied (M.Measure.costs measure.now) sample from.now branches.now row.new }
-    ensures two { Brought two_cheapest two (M.Measure.costs measure.now) sample from.now branches.now row.new }
-    ensures sounds { (c : ℕ) → Sounds c from.now → Sounds (c + most_cost) row.new }
+    ensures { Advanced (M.Measure.costs measure.now) sample from.now branches.now row.new bytes.new }
 {
     for branch in branches {
         let cost = measure.cost(branch.label, sample);
-        let rank = from[branch.from as usize];
-        let next = branch.next as usize;
-        if join(&mut row[next], rank, cost) {
-            bytes[next] = branch.byte;
-        }
+        put(row, bytes, branch, from[branch.from as usize], cost);
     }
 }
 
-// One sample further: the ranks and the bytes of all states, from a row that is clear.
-pub(crate) fn advance_ranks<T: Trellis, M: Measure>(
-    trellis: &T,
+// One sample further: the ranks and the bytes of all states.
+// The new row begins as a copy of one that is clear, and is copied over the old one: so it was measured the fastest.
+pub(crate) fn advance_ranks<M: Measure>(
     branches: &[ListedBranch],
     measure: &M,
     sample: i16,
-    from: &[Rank; MOST_STATES],
     clear: &[Rank; MOST_STATES],
     row: &mut [Rank; MOST_STATES],
     bytes: &mut [u8],
 )
-    requires branches { branches.now ≡ branches_of (T.Trellis.meaning trellis.now) }
+    requires within { AllByRecursion (Within most_states most_states) branches.now }
     requires bytes { most_states ≤ length bytes.old }
-    requires sounds { Sounds (2 ^ 61) from.now }
-    requires clear { (k : ℕ) → k < most_states → slice_index_or clear.now k past ≡ nowhere }
+    requires sounds { Sounds (2 ^ 61) row.old }
+    requires clear { clear.now ≡ replicate most_states nowhere }
     requires zeros { Zeros bytes.old }
-    ensures kept { KeptNumbers most_states (best (T.Trellis.meaning trellis.now) (M.Measure.costs measure.now) sample (reached_at (costs_in from.now))) (costs_in row.new) bytes.new }
-    ensures tied { Brought cheapest_with_count tied (M.Measure.costs measure.now) sample from.now (branches_of (T.Trellis.meaning trellis.now)) row.new }
-    ensures two { Brought two_cheapest two (M.Measure.costs measure.now) sample from.now (branches_of (T.Trellis.meaning trellis.now)) row.new }
-    ensures sounds { (c : ℕ) → Sounds c from.now → Sounds (c + most_cost) row.new }
+    ensures { Advanced (M.Measure.costs measure.now) sample row.old branches.now row.new bytes.new }
 {
-    *row = *clear;
-    extend(branches, measure, sample, from, row, bytes);
+    let mut next = *clear;
+    extend(branches, measure, sample, row, &mut next, bytes);
+    *row = next;
 }

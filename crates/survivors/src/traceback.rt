@@ -24,6 +24,7 @@ fn walk_back(choices: &[u8], last: usize, letters: &mut [u8]) -> usize
 {
     let mut state = last;
     let steps = letters.len();
+    // By place: of letters written through iter_mut().enumerate().rev() a proof would know only how many there are.
     for k in (0..steps).rev() {
         let byte = choices[place_of(k, state)];
         letters[k] = letter_of(byte);

@@ -1,4 +1,4 @@
-use Rattle.std.proofs.Common.{◌≡◌, ◌+◌, ◌^◌, ◌<◌, get_or, sym, refl, ap, ◌∙◌, subst, arith}
+use Rattle.std.proofs.Common.{◌≡◌, ◌+◌, ◌^◌, ◌<◌, get_or, sym, refl, ap, ◌∙◌, subst, arith, get_or-take}
 use Rattle.algebras.specs.CostCounts.{cheapest_with_count}
 use Rattle.algebras.specs.TwoCosts.{two_cheapest}
 use Rattle.algebras.specs.CostCountLaws.{cost_count_laws}
@@ -23,7 +23,7 @@ loop-state-preserved c =
     let more = joined_rank all v 0 in
     elim c.if-is_permitted.branch [
       | then-is_permitted w ↦
-          let e : c.if-is_permitted.all ≡ more = w.all-is ∙ w.join.ensures.rank in
+          let e : c.if-is_permitted.all ≡ more = w.all-is ∙ w.join.ensures.rank ∙ ap (λ z. joined_rank all z 0) (get_or-take c.args.n row s past (omega arith)) in
           let p = sym c.is_permitted.ensures ∙ w.if-is_permitted.true in (
             ap tied e ∙ gather_taken cheapest_with_count cost_count_laws tied c.args.end row s all c.loop-state.invariant.0 more p refl (tied_joined all v 0 (omega arith) sa.sorted sv.sorted room room₂),
             ap two e ∙ gather_taken two_cheapest two_laws two c.args.end row s all c.loop-state.invariant.1 more p refl (two_joined all v 0 (omega arith) sa.sorted sv.sorted room room₂),
