@@ -27,6 +27,7 @@ fn put_measure(out: &mut Vec<u8>, measure: MeasureLine) -> Result<(), AllocError
     }
 }
 
+// The line of a branch: state, letter, next state and label.
 fn put_branch(
     out: &mut Vec<u8>,
     state: usize,
