@@ -1,6 +1,8 @@
 // The report of a settled record: the first of the cheapest admissible paths on what it holds.
 ghost use Rattle.std.specs.Prelude.{◌≡◌, length};
+ghost use Rattle.std.specs.Option.{ok_or};
 ghost use Rattle.std.specs.Result.{result_ok};
+ghost use Rattle.model.specs.declared.refusal.Refusal.TheVariants.{NoPath};
 ghost use Rattle.model.specs.Refusals.{answer};
 ghost use Rattle.records.specs.Held.{Held};
 ghost use Rattle.records.specs.Reports.{has_room, path_check, if_reported, written, reported_path, report_of, AnswersReport};
@@ -10,6 +12,7 @@ use crate::settled::Settled;
 use model::measure::Measure;
 use model::refusal::Refusal;
 use model::trellis::Trellis;
+use survivors::standing::Standing;
 use survivors::traceback::trace;
 
 // Whether so many letters have room from a place on in a buffer of this length.
@@ -17,6 +20,14 @@ fn is_room(letters: usize, place: usize, buffer: usize) -> bool
     ensures { result ≡ has_room letters place buffer }
 {
     place <= buffer && letters <= buffer - place
+}
+
+// Where the reported path stands, or the refusal where there is none.
+fn path_standing(standing: Option<Standing>) -> Result<Standing, Refusal>
+    ensures checked { result ≡ ok_or standing NoPath }
+    ensures value { standing ≡ result_ok result }
+{
+    standing.ok_or(Refusal::NoPath)
 }
 
 impl<T: Trellis, M: Measure> Settled<T, M> {
@@ -28,7 +39,7 @@ impl<T: Trellis, M: Measure> Settled<T, M> {
         ensures buffer { buffer.new ≡ written (reported_path (T.Trellis.meaning self.now.seen.trellis) (M.Measure.costs self.now.seen.measure) self.now.seen.held) (has_room (length self.now.seen.held.samples) place (length buffer.old)) place buffer.old }
         ensures law { AnswersReport (T.Trellis.meaning self.now.seen.trellis) (M.Measure.costs self.now.seen.measure) self.now.seen.held place result buffer.old buffer.new }
     {
-        let standing = self.standing.ok_or(Refusal::NoPath)?;
+        let standing = path_standing(self.standing)?;
         let held = self.table.samples.len();
         if !is_room(held, place, buffer.len()) {
             return Err(Refusal::BufferShort);
@@ -39,12 +50,6 @@ impl<T: Trellis, M: Measure> Settled<T, M> {
             &mut buffer[place..place + held],
         )
         .unwrap();
-        Ok(Report {
-            first,
-            last: standing.last,
-            cost: standing.cost,
-            ties: standing.ties,
-            second: standing.second,
-        })
+        Ok(Report::new(standing, first))
     }
 }
