@@ -2,6 +2,7 @@
 use Rattle.std.proofs.Common.{◌≡◌, ℕ, ◌+◌, ◌%◌, ◌≤◌, Bool, true, false, cond, not, eqb, leb, List, ◌∷◌, ◌++◌, length, get_or, take, drop, Some, None, Ok, Err, Option, Result, sym, refl, ap, ◌∙◌, subst, arith, length-drop, take-append-drop, eq-eqb}
 use Rattle.std.proofs.lemmas.List.{drop_at, length-take-le, nil_from_length}
 use Rattle.std.proofs.lemmas.Bool.{leb-true, eqb-true, not-true}
+use Rattle.model.proofs.Cases.{not_ok, ok_same}
 use Rattle.model.specs.declared.refusal.Refusal.{Refusal}
 use Rattle.model.specs.declared.refusal.Refusal.TheVariants.{BlockOrder, PayloadLength, BytesAfterEnd}
 use Rattle.model.specs.Refusals.{Refused}
@@ -11,12 +12,6 @@ use Rattle.blocks.specs.Kinds.{kind_of, may_carry, may_precede}
 use Rattle.blocks.specs.Blocks.{Content, description, samples, end, Parts, number_of, length_in, kind_in, payload_of, checked, block_of_kind, block_of_frame, first_block, faulted_at, block_at}
 use Rattle.blocks.specs.Standing.{kind_named, Allowed, Stands}
 use Rattle.blocks.proofs.Framing.{written_frame, frame_parts}
-
-not_ok : {X Z : Type 0} {x : X} {z : Z} → ◌≡◌ {A = Result X Z} (Err z) (Ok x) → ⊥
-not_ok e = let z : ◌≡◌ {A = ℕ} 0 1 = cc in omega arith
-
-ok_same : {X Z : Type 0} {x y : X} → ◌≡◌ {A = Result X Z} (Ok x) (Ok y) → x ≡ y
-ok_same e = cc
 
 -- a block that is allowed passes the checks of its kind
 allowed_passes : (first : Bool) (c : Content) (n : ℕ) (rest : List ℕ) → Allowed first c rest → block_of_kind first (record { kind = n; payload = payload_of c; rest = rest }) (Some (kind_named c)) ≡ Ok c

@@ -1,8 +1,6 @@
 // Worked blocks, as a theorem about the definitions.
 ghost use Rattle.blocks.specs.Examples.{Examples};
 
-pub fn examples_stand() -> u8
+pub fn examples_stand()
     ensures { Examples }
-{
-    0
-}
+{}

@@ -4,8 +4,6 @@
 ghost use Rattle.channels.specs.Channels.{SmallChannels};
 
 // What is said of the small channels holds.
-pub fn channels_stand() -> u8
+pub fn channels_stand()
     ensures { SmallChannels }
-{
-    0
-}
+{}

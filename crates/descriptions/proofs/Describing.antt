@@ -10,7 +10,8 @@ use Rattle.setups.specs.Described.{Spells, Reordered, nothing, keep, swap, after
 use Rattle.setups.specs.Lines.{Read, gathered, gathered_from, follow, read_lines}
 use Rattle.setups.specs.Setups.{held_setup, setup_of}
 use Rattle.setups.specs.Texts.{lines_of, text_of}
-use Rattle.setups.proofs.Spelling.{ok_same, not_ok, onto, heard, reads_spelt, spelt_reads}
+use Rattle.model.proofs.Cases.{not_ok, ok_same}
+use Rattle.setups.proofs.Spelling.{onto, heard, reads_spelt, spelt_reads}
 use Rattle.setups.proofs.Ordering.{gathered_setup, onto_alike, respelt}
 use Rattle.descriptions.specs.Checks.{answers, first_fault}
 use Rattle.descriptions.specs.Descriptions.{most_bytes, too_long, unless_fault, set_up, description, Describes, AnyOrder}

@@ -61,8 +61,6 @@ impl Algebra for Matrices {
 }
 
 // The product does not commute.
-pub(crate) fn order_stands() -> u8
+pub(crate) fn order_stands()
     ensures { OrderMatters }
-{
-    0
-}
+{}

@@ -28,7 +28,8 @@ use Rattle.recordings.specs.declared.outcome.Outcome.{Outcome}
 use Rattle.recordings.specs.Recordings.{most_bytes, call_fault, set_up_by, set_up, read_blocks, outcome_of, detected, held_at_first, detected_from, recording, outcome_in, buffer_after}
 use Rattle.recordings.specs.Recorded.{Recorded, end_place, held_in, PathIn, Gives, Accepts}
 use Rattle.recordings.specs.Steps.{Lawfully}
-use Rattle.recordings.proofs.Holding.{not_ok, ok_same, held_first}
+use Rattle.recordings.proofs.Holding.{held_first}
+use Rattle.model.proofs.Cases.{not_ok, ok_same}
 use Rattle.recordings.proofs.Parting.{stands, parted, block_length, from_block, after_block, reads, followed, BlocksFrom, blocks_from}
 
 -- ---- what is read of a recording

@@ -2,6 +2,7 @@
 use Rattle.std.proofs.Common.{◌≡◌, ℕ, suc, Bool, true, false, List, length, ℤ, Some, None, Ok, Err, Option, Result, sym, refl, ap, ◌∙◌, subst}
 use Rattle.model.specs.declared.refusal.Refusal.{Refusal}
 use Rattle.std.specs.Result.{result_ok}
+use Rattle.model.proofs.Cases.{not_ok, err_same}
 use Rattle.model.specs.Refusals.{refusal_number, Refused, answer}
 use Rattle.model.specs.Trellises.{Diagram}
 use Rattle.algebras.specs.Counts.{counting}
@@ -17,12 +18,6 @@ use Rattle.records.specs.Reports.{has_room, path_check, if_reported, written, re
 use Rattle.recordings.specs.declared.outcome.Outcome.{Outcome}
 use Rattle.recordings.specs.Steps.{at_block}
 use Rattle.recordings.specs.Recordings.{call_fault, outcome_of, detected, read_blocks, held_at_first, detected_from, outcome_in, buffer_after}
-
-not_ok : {X Y : Type 0} {x : X} {y : Y} → ◌≡◌ {A = Result X Y} (Ok x) (Err y) → ⊥
-not_ok {x = x} e = never {x = x} refl (ap result_ok e)
-
-err_same : {X Y : Type 0} {a b : Y} → ◌≡◌ {A = Result X Y} (Err a) (Err b) → a ≡ b
-err_same e = cc
 
 same_outcome : (n n' m m' : ℕ) (r r' : Report) → n ≡ n' → m ≡ m' → r ≡ r' → ◌≡◌ {A = Outcome} (record { samples = n; paths = m; report = r }) (record { samples = n'; paths = m'; report = r' })
 same_outcome n n' m m' r r' p q s = cc
@@ -51,7 +46,7 @@ module _ (d : Diagram) (cost : ℤ → ℤ → ℕ) (h : Held) (at place : ℕ) 
   pub detects_fault : (r : Result Report Refusal) (f : Refused) → ◌≡◌ {A = Result Report Refused} (Err f) (at_block r place) → result_ok r ≡ if_reported (reported_path d cost h) (has_room (length h.samples) at (length old)) (report_of d cost h) →
       answer r ≡ path_check (reported_path d cost h) (has_room (length h.samples) at (length old)) → new ≡ written (reported_path d cost h) (has_room (length h.samples) at (length old)) at old →
       Detects d cost h at place old new (Err f)
-  detects_fault (Ok a) f e v c w = absurd (not_ok {x = a} (sym e))
+  detects_fault (Ok a) f e v c w = absurd (not_ok {x = a} e)
   detects_fault (Err x) f e v c w = subst (λ k. Detects d cost h at place old new (Err k)) (sym (err_same e)) (detects_no x v c w)
 
   yes_by : (o : Option Path) (room : Bool) (r : Report) (n m : ℕ) → Some r ≡ if_reported o room (report_of d cost h) → new ≡ written o room at old → n ≡ length h.samples →

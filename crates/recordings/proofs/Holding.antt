@@ -2,6 +2,7 @@
 use Rattle.std.proofs.Common.{◌≡◌, ℕ, ◌+◌, ◌<◌, ◌≤◌, Bool, true, false, cond, ◌&&◌, eqb, ltb, List, [], ◌∷◌, ◌++◌, length, ℤ, is_some, Some, None, Ok, Err, Option, Result, sym, refl, ap, ◌∙◌, ap₂, append_assoc, append-nil, arith, length-append, lt-ltb}
 use Rattle.std.proofs.lemmas.Bool.{ltb-true}
 use Rattle.std.specs.List.{AllByRecursion}
+use Rattle.model.proofs.Cases.{not_ok, ok_same}
 use Rattle.model.specs.declared.refusal.Refusal.TheVariants.{NotAState, RecordFull}
 use Rattle.model.specs.Refusals.{refusal_number}
 use Rattle.model.specs.Trellises.{Diagram, state_of}
@@ -14,12 +15,6 @@ use Rattle.descriptions.specs.Checks.{About, trellis_answers, other_answers, anc
 use Rattle.records.specs.Held.{Held, new_held, is_named, if_accepted}
 use Rattle.recordings.specs.Recordings.{call_fault, take_all, held_at_first}
 use Rattle.recordings.specs.Recorded.{held_in}
-
-pub not_ok : {X Z : Type 0} {x : X} {z : Z} → ◌≡◌ {A = Result X Z} (Err z) (Ok x) → ⊥
-not_ok e = let z : ◌≡◌ {A = ℕ} 0 1 = cc in omega arith
-
-pub ok_same : {X Z : Type 0} {x y : X} → ◌≡◌ {A = Result X Z} (Ok x) (Ok y) → x ≡ y
-ok_same e = cc
 
 -- ---- more samples
 

@@ -18,7 +18,8 @@ use Rattle.blocks.proofs.Facts.{later_undescribed}
 use Rattle.recordings.specs.Recordings.{take_all, with_block, read_blocks}
 use Rattle.recordings.specs.Recorded.{kind_number, BlockOf, SampleBlocks, no_more, and_then}
 use Rattle.recordings.proofs.BlockLists.{blocks_more}
-use Rattle.recordings.proofs.Holding.{not_ok, ok_same, more, more_none, more_more, takes_all, all_taken}
+use Rattle.model.proofs.Cases.{not_ok, ok_same}
+use Rattle.recordings.proofs.Holding.{more, more_none, more_more, takes_all, all_taken}
 
 -- ---- one block
 

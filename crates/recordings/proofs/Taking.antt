@@ -8,6 +8,7 @@ use Rattle.model.specs.Refusals.{refusal_number, Refused, answer}
 use Rattle.paths.proofs.Listing.{never}
 use Rattle.records.specs.Held.{Held, take_check, taken}
 use Rattle.recordings.specs.Recordings.{call_fault, take_all}
+use Rattle.model.proofs.Cases.{not_ok}
 use Rattle.recordings.specs.Steps.{at_block}
 
 -- no refusal has the number 0
@@ -42,7 +43,7 @@ refusal_some RecordingLarge = lit< tt
 -- a sample that is refused is the fault, whatever comes after it
 pub taken_no : (place : ℕ) (h : Held) (x : ℤ) (xs : List ℤ) (r : Result (Unit {0}) Refusal) (f : Refused) → ◌≡◌ {A = Result (Unit {0}) Refused} (Err f) (at_block r place) → answer r ≡ take_check h →
     ◌≡◌ {A = Result Held Refused} (Err f) (take_all place h (x ∷ xs))
-taken_no place h x xs (Ok u) f e c = absurd (never {x = u} refl (sym (ap result_ok e)))
+taken_no place h x xs (Ok u) f e c = absurd (not_ok e)
 taken_no place h x xs (Err w) f e c =
     let same : f ≡ call_fault (refusal_number w) place = cc in
     let no = ne_eqb (take_check h) 0 (λ z. omega (arith, refusal_some w)) in

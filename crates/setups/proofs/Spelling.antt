@@ -3,6 +3,7 @@ use Rattle.std.proofs.Common.{◌≡◌, ℕ, ◌+◌, ◌-◌, Bool, true, fals
 use borrow.Author.Tests.{clash}
 use Rattle.std.proofs.lemmas.Bool.{eqb-true, and_parts}
 use Rattle.std.specs.Str.{bytes_eq}
+use Rattle.model.proofs.Cases.{not_ok, ok_same}
 use Rattle.lines.specs.declared.form.Line.{Line}
 use Rattle.lines.specs.Forms.{line_byte, line_bytes, well_spaced, form_of, line_form}
 use Rattle.lines.specs.Words.{is_space, words}
@@ -36,12 +37,6 @@ record Heard (xs : List Piece) (ls hs : List Read) : Type 0 where
   says : Said xs fs
   once : OnceAfter (heard ls) fs
   all : heard hs ≡ onto fs (heard ls)
-
-pub ok_same : {X Z : Type 0} {x y : X} → ◌≡◌ {A = Result X Z} (Ok x) (Ok y) → x ≡ y
-ok_same e = cc
-
-pub not_ok : {X Z : Type 0} {x : X} {z : Z} → ◌≡◌ {A = Result X Z} (Err z) (Ok x) → ⊥
-not_ok e = let z : ◌≡◌ {A = ℕ} 0 1 = cc in omega arith
 
 module _ (x : Piece) (xs : List Piece) (p : ℕ) (ls hs : List Read) (rest : (ms : List Read) → read_lines (p + length x.bytes + 1) ms xs ≡ Ok hs → Heard xs ms hs) where
   heard_by : (l : Line) (t : Bool) → said x ≡ Some l → seen (first_word l) ls ≡ t → follow (cond t (Err (line_fault LineRepeated p)) (Ok ((l, p) ∷ ls))) (λ ms. read_lines (p + length x.bytes + 1) ms xs) ≡ Ok hs → Heard (x ∷ xs) ls hs

@@ -129,8 +129,6 @@ impl Trellis for Channel {
 }
 
 // A theorem: the letters of a next state are the new letter and those of the state, without the oldest.
-pub fn taps_stand() -> u8
+pub fn taps_stand()
     ensures { TapsByLetters }
-{
-    0
-}
+{}
