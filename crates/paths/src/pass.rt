@@ -1,8 +1,8 @@
 // A forward pass over a list of the branches, two samples a turn.
-ghost use Rattle.std.specs.Prelude.{◌≡◌, ◌≤◌, [], ◌∷◌, length, drop, Some, slice_index_or};
+ghost use Rattle.std.specs.Prelude.{◌≡◌, ◌≤◌, length, Some, slice_index_or};
 ghost use Rattle.paths.specs.Sums.{path_sum};
 ghost use Rattle.paths.specs.Laws.{AnyOrder, AnyList};
-ghost use Rattle.paths.specs.Rows.{Entries, SameSlice};
+ghost use Rattle.paths.specs.Rows.{Entries, Copied, SameSlice};
 ghost use Rattle.paths.specs.Branches.{branches_of};
 ghost use Rattle.paths.specs.Recursion.{stepped, Advanced};
 
@@ -43,13 +43,31 @@ impl<T: Trellis, M: Measure, A: Algebra> Pass<'_, T, M, A> {
     )
         requires first { (T.Trellis.meaning self.now.trellis.now).states ≤ length first.old.weights.now }
         requires second { (T.Trellis.meaning self.now.trellis.now).states ≤ length second.old.weights.now }
-        ensures first { Advanced (T.Trellis.meaning self.now.trellis.now) (M.Measure.costs self.now.measure.now) A.Algebra.semiring (samples.0 ∷ samples.1 ∷ []) first.old.weights.now first.new.weights.now }
-        ensures second { drop (T.Trellis.meaning self.now.trellis.now).states second.new.weights.now ≡ drop (T.Trellis.meaning self.now.trellis.now).states second.old.weights.now }
+        ensures second { Entries (T.Trellis.meaning self.now.trellis.now).states (stepped (T.Trellis.meaning self.now.trellis.now) (M.Measure.costs self.now.measure.now) A.Algebra.semiring samples.0 (λ s. slice_index_or first.old.weights.now s A.Algebra.semiring.zero)) second.old.weights.now second.new.weights.now }
+        ensures first { Entries (T.Trellis.meaning self.now.trellis.now).states (stepped (T.Trellis.meaning self.now.trellis.now) (M.Measure.costs self.now.measure.now) A.Algebra.semiring samples.1 (λ s. slice_index_or second.new.weights.now s A.Algebra.semiring.zero)) first.old.weights.now first.new.weights.now }
         ensures first_slice { SameSlice first.old.weights first.new.weights }
         ensures second_slice { SameSlice second.old.weights second.new.weights }
     {
         self.step(samples.0, first, second);
         self.step(samples.1, second, first);
+    }
+
+    // One sample further, by way of the second row, from which it is copied.
+    fn step_last(
+        &self,
+        sample: i16,
+        first: &mut Row<'_, A::Weight>,
+        second: &mut Row<'_, A::Weight>,
+    )
+        requires first { (T.Trellis.meaning self.now.trellis.now).states ≤ length first.old.weights.now }
+        requires second { (T.Trellis.meaning self.now.trellis.now).states ≤ length second.old.weights.now }
+        ensures second { Entries (T.Trellis.meaning self.now.trellis.now).states (stepped (T.Trellis.meaning self.now.trellis.now) (M.Measure.costs self.now.measure.now) A.Algebra.semiring sample (λ s. slice_index_or first.old.weights.now s A.Algebra.semiring.zero)) second.old.weights.now second.new.weights.now }
+        ensures first { Copied (T.Trellis.meaning self.now.trellis.now).states second.new.weights.now first.old.weights.now first.new.weights.now }
+        ensures first_slice { SameSlice first.old.weights first.new.weights }
+        ensures second_slice { SameSlice second.old.weights second.new.weights }
+    {
+        self.step(sample, first, second);
+        first.copy(second, self.trellis.states());
     }
 
     // All samples: by twos, then the last one, if one is left. The second row is cleared.
@@ -61,17 +79,15 @@ impl<T: Trellis, M: Measure, A: Algebra> Pass<'_, T, M, A> {
         ensures first_slice { SameSlice first.old.weights first.new.weights }
         ensures second_slice { SameSlice second.old.weights second.new.weights }
     {
-        let n = self.trellis.states();
         let mut left = samples;
         while let [sample, next, rest @ ..] = left {
             self.step_twice((*sample, *next), first, second);
             left = rest;
         }
         if let [sample] = left {
-            self.step(*sample, first, second);
-            first.copy(second, n);
+            self.step_last(*sample, first, second);
         }
-        second.clear(n, self.algebra.zero());
+        second.clear(self.trellis.states(), self.algebra.zero());
     }
 
     // The forward pass over two rows that have an entry for each state.
