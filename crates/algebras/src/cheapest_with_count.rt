@@ -38,6 +38,7 @@ fn count_at(cost: u64, count: u64) -> u64
     if cost < u64::MAX { count } else { 0 }
 }
 
+// Made of two numbers, each with its name, so by a function and not by a conversion.
 fn counted(cost: u64, count: u64) -> CostCount
     ensures { result ≡ cost_count cost count }
 {

@@ -29,6 +29,7 @@ impl fmt::Display for TwoCosts {
     }
 }
 
+// Made of two numbers in order, so by a function and not by a conversion.
 fn paired(first: u64, second: u64) -> TwoCosts
     requires { first ≤ second }
     ensures { result ≡ pair first second }

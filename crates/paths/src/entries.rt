@@ -79,7 +79,7 @@ pub(crate) fn extend_entries<M: Measure, A: Algebra>(
     }
 }
 
-// The sum of those of the first n entries that the end permits.
+// The sum of those of the first n entries that the end permits; a `fold` after a `filter` is no plainer than the loop.
 pub(crate) fn total_entries<A: Algebra>(
     algebra: &A,
     row: &[A::Weight],

@@ -23,7 +23,7 @@ pub(crate) struct Pass<'a, T: Trellis, M: Measure, A: Algebra> {
 }
 
 impl<T: Trellis, M: Measure, A: Algebra> Pass<'_, T, M, A> {
-    // Makes the second row what the first is one sample later.
+    // Makes the second row what the first is one sample later. The rows are two arguments, since each is read and written in turn.
     fn step(&self, sample: i16, first: &Row<'_, A::Weight>, second: &mut Row<'_, A::Weight>)
         requires first { (T.Trellis.meaning self.now.trellis.now).states ≤ length first.now.weights.now }
         requires second { (T.Trellis.meaning self.now.trellis.now).states ≤ length second.old.weights.now }
