@@ -21,7 +21,7 @@ fn run_taps(letters: i32, count: usize, plan: Plan) -> Result<u64, Refusal> {
     run(taps, Square, Small, plan)
 }
 
-// The checksum of a workload's frames.
+// The checksum of a workload's frames. Here a word of the command line becomes types, so that each arm has its own.
 pub(crate) fn run_workload(workload: Workload, plan: Plan) -> Result<u64, Refusal> {
     match workload {
         Workload::Ccsds => run_code(plan),

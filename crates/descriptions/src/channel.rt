@@ -14,7 +14,8 @@ use trellises::code::Code;
 use trellises::run_length::RunLength;
 use trellises::taps::Taps;
 
-// One of the four kinds of trellis that a description can set up.
+// One of the four kinds of trellis that a description can set up. An enum, since a dyn value would lie on the heap or be
+// handed out by the function that makes it.
 #[derive(Drop)]
 pub enum Channel {
     Taps(Taps),

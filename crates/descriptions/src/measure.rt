@@ -10,7 +10,7 @@ use measures::erasing::Erasing;
 use measures::square::Square;
 use model::measure::Measure;
 
-// One of the two kinds of measure that a description can set up.
+// One of the two kinds of measure that a description can set up; an enum, as a channel is.
 #[derive(Clone, Copy)]
 pub enum ChannelMeasure {
     Square(Square),

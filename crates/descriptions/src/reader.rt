@@ -12,7 +12,8 @@ use setups::setup::Setup;
 // The most bytes that one block carries.
 const MOST_BYTES: usize = 65535;
 
-// The setup of the description that begins at a place of the bytes and goes to their end, or the first fault.
+// The setup of the description that begins at a place of the bytes and goes to their end, or the first fault. The bytes are
+// not cut at the place, since the places of faults count from their front.
 pub fn read_description(bytes: &[u8], from: usize) -> Result<Setup, Fault>
     ensures value { outcome result ≡ description from (drop from bytes.now) }
     ensures accepts { (s : Setup) → (result ≡ Ok s → Describes (drop from bytes.now) s) × (Describes (drop from bytes.now) s → result ≡ Ok s) }

@@ -1,7 +1,7 @@
 // What a recording gives: how many samples are held, how many admissible paths there are, modulo 2 ^ 64, and the report.
 use records::report::Report;
 
-#[derive(Clone, Copy, Debug)]
+#[derive(Clone, Copy, Debug, PartialEq, Eq)]
 pub struct Outcome {
     pub samples: usize,
     pub paths: u64,

@@ -48,7 +48,8 @@ fn detect_from(
     detect_at(record, end, letters, at)
 }
 
-// Reads a recording and writes the letters of the reported path into a buffer, from a place of the buffer on.
+// Reads a recording and writes the letters of the reported path into a buffer, from a place of the buffer on. Buffer and
+// place stay two arguments, as C hands them over and a record's report takes them.
 pub fn read_recording(recording: &[u8], letters: &mut [u8], at: usize) -> Result<Outcome, Fault>
     ensures value { outcome result ≡ outcome_in (recorded recording.now at (length letters.old)) }
     ensures letters { letters.new ≡ buffer_after (recorded recording.now at (length letters.old)) at letters.old }
@@ -57,7 +58,7 @@ pub fn read_recording(recording: &[u8], letters: &mut [u8], at: usize) -> Result
     read(recording, letters, at)
 }
 
-// The same, by the definition of what a recording gives.
+// The reading alone, by the definition of what a recording gives: which recordings it accepts follows from that.
 fn read(recording: &[u8], letters: &mut [u8], at: usize) -> Result<Outcome, Fault>
     ensures value { outcome result ≡ outcome_in (recorded recording.now at (length letters.old)) }
     ensures letters { letters.new ≡ buffer_after (recorded recording.now at (length letters.old)) at letters.old }

@@ -2,9 +2,9 @@
 ghost use Rattle.std.specs.Prelude.{◌≡◌, suc, ◌≤◌, cond, length, IfOk};
 ghost use Rattle.model.specs.Refusals.{outcome};
 ghost use Rattle.algebras.specs.Counts.{counting};
-ghost use Rattle.paths.specs.Sums.{path_sum};
 ghost use Rattle.records.specs.Held.{Held};
 ghost use Rattle.records.specs.Seen.{with_held};
+ghost use Rattle.records.specs.Asked.{sum_in};
 ghost use Rattle.blocks.specs.Samples.{samples_of};
 ghost use Rattle.recordings.specs.Recordings.{set_up, take_all, read_blocks, detected, outcome_in, buffer_after};
 ghost use Rattle.recordings.specs.Steps.{at_block, held_then, ended};
@@ -73,7 +73,7 @@ pub(crate) fn read_blocks<T: Trellis, M: Measure>(
 
 // How many admissible paths there are, modulo 2 ^ 64.
 fn count_paths<T: Trellis, M: Measure>(settled: &Settled<T, M>) -> u64
-    ensures { result ≡ (path_sum (T.Trellis.meaning settled.now.seen.trellis) (M.Measure.costs settled.now.seen.measure) counting settled.now.seen.held.start settled.now.seen.held.end settled.now.seen.held.samples).value }
+    ensures { result ≡ (sum_in T.Trellis.meaning M.Measure.costs counting settled.now.seen).value }
 {
     let mut first = [Counting.zero(); MOST_STATES];
     let mut second = [Counting.zero(); MOST_STATES];

@@ -3,6 +3,7 @@ pub mod Seen
 pub mod Tables
 pub mod Sound
 pub mod Reports
+pub mod Asked
 pub mod Runs
 pub mod Records
 pub mod Laws

@@ -1,5 +1,5 @@
 // A call of a record, with its arguments.
-#[derive(Clone, Copy, Debug)]
+#[derive(Clone, Copy, Debug, PartialEq, Eq)]
 pub enum Call {
     // The numbers of start and end, each left out or any number.
     Anchor(Option<i32>, Option<i32>),

@@ -68,7 +68,7 @@ fn run_calls<T: Trellis, M: Measure>(trellis: T, measure: M, calls: &[Call]) -> 
     record
 }
 
-// What a record answers if it is settled: a report and a weigh.
+// What a record answers if it is settled: a report and a weigh. What they are lent stays apart, as the two calls take it.
 fn ask<T: Trellis, M: Measure, A: Algebra>(
     record: &Record<T, M>,
     algebra: &A,

@@ -1,11 +1,11 @@
 // The report of a settled record: the first of the cheapest admissible paths on what it holds.
-ghost use Rattle.std.specs.Prelude.{◌≡◌, length};
+ghost use Rattle.std.specs.Prelude.{◌≡◌};
 ghost use Rattle.std.specs.Option.{ok_or};
 ghost use Rattle.std.specs.Result.{result_ok};
 ghost use Rattle.model.specs.declared.refusal.Refusal.TheVariants.{NoPath};
 ghost use Rattle.model.specs.Refusals.{answer};
-ghost use Rattle.records.specs.Held.{Held};
-ghost use Rattle.records.specs.Reports.{has_room, path_check, if_reported, written, reported_path, report_of, AnswersReport};
+ghost use Rattle.records.specs.Asked.{path_in, room_in, report_in};
+ghost use Rattle.records.specs.Reports.{has_room, path_check, if_reported, written, AnswersReport};
 
 use crate::report::Report;
 use crate::settled::Settled;
@@ -34,9 +34,9 @@ impl<T: Trellis, M: Measure> Settled<T, M> {
     // Writes the letters of the reported path into the buffer, from the place on and nothing elsewhere, and answers the
     // rest of the report.
     pub fn report(&self, buffer: &mut [u8], place: usize) -> Result<Report, Refusal>
-        ensures value { result_ok result ≡ if_reported (reported_path (T.Trellis.meaning self.now.seen.trellis) (M.Measure.costs self.now.seen.measure) self.now.seen.held) (has_room (length self.now.seen.held.samples) place (length buffer.old)) (report_of (T.Trellis.meaning self.now.seen.trellis) (M.Measure.costs self.now.seen.measure) self.now.seen.held) }
-        ensures checked { answer result ≡ path_check (reported_path (T.Trellis.meaning self.now.seen.trellis) (M.Measure.costs self.now.seen.measure) self.now.seen.held) (has_room (length self.now.seen.held.samples) place (length buffer.old)) }
-        ensures buffer { buffer.new ≡ written (reported_path (T.Trellis.meaning self.now.seen.trellis) (M.Measure.costs self.now.seen.measure) self.now.seen.held) (has_room (length self.now.seen.held.samples) place (length buffer.old)) place buffer.old }
+        ensures value { result_ok result ≡ if_reported (path_in T.Trellis.meaning M.Measure.costs self.now.seen) (room_in self.now.seen place buffer.old) (report_in T.Trellis.meaning M.Measure.costs self.now.seen) }
+        ensures checked { answer result ≡ path_check (path_in T.Trellis.meaning M.Measure.costs self.now.seen) (room_in self.now.seen place buffer.old) }
+        ensures buffer { buffer.new ≡ written (path_in T.Trellis.meaning M.Measure.costs self.now.seen) (room_in self.now.seen place buffer.old) place buffer.old }
         ensures law { AnswersReport (T.Trellis.meaning self.now.seen.trellis) (M.Measure.costs self.now.seen.measure) self.now.seen.held place result buffer.old buffer.new }
     {
         let standing = path_standing(self.standing)?;

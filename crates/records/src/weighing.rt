@@ -2,10 +2,10 @@
 ghost use Rattle.std.specs.Prelude.{◌≡◌, IfOk};
 ghost use Rattle.std.specs.Result.{result_ok};
 ghost use Rattle.model.specs.Refusals.{answer};
-ghost use Rattle.paths.specs.Sums.{path_sum};
 ghost use Rattle.paths.specs.Laws.{AnyList};
 ghost use Rattle.paths.specs.Rows.{row_check, if_long_enough, RowsLeft};
 ghost use Rattle.records.specs.Held.{Held};
+ghost use Rattle.records.specs.Asked.{sum_in};
 
 use crate::settled::Settled;
 use algebras::algebra::Algebra;
@@ -23,7 +23,7 @@ impl<T: Trellis, M: Measure> Settled<T, M> {
         first: &mut [A::Weight],
         second: &mut [A::Weight],
     ) -> Result<A::Weight, Refusal>
-        ensures value { result_ok result ≡ if_long_enough (T.Trellis.meaning self.now.seen.trellis) first.old second.old (path_sum (T.Trellis.meaning self.now.seen.trellis) (M.Measure.costs self.now.seen.measure) A.Algebra.semiring self.now.seen.held.start self.now.seen.held.end self.now.seen.held.samples) }
+        ensures value { result_ok result ≡ if_long_enough (T.Trellis.meaning self.now.seen.trellis) first.old second.old (sum_in T.Trellis.meaning M.Measure.costs A.Algebra.semiring self.now.seen) }
         ensures checked { answer result ≡ row_check (T.Trellis.meaning self.now.seen.trellis) first.old second.old }
         ensures rows { RowsLeft (T.Trellis.meaning self.now.seen.trellis) (M.Measure.costs self.now.seen.measure) A.Algebra.semiring self.now.seen.held.start self.now.seen.held.samples first.old first.new second.old second.new }
         ensures law { IfOk result (AnyList (T.Trellis.meaning self.now.seen.trellis) (M.Measure.costs self.now.seen.measure) A.Algebra.semiring self.now.seen.held.start self.now.seen.held.end self.now.seen.held.samples) }
