@@ -1,11 +1,9 @@
 -- Taking the samples of a block, one after another. Assumes nothing.
-use Rattle.std.proofs.Common.{◌≡◌, ℕ, ◌<◌, cond, List, ◌∷◌, ℤ, Ok, Err, Result, sym, refl, ap, ◌∙◌, arith, lit<}
+use Rattle.std.proofs.Common.{◌≡◌, ℕ, ◌<◌, cond, List, ◌∷◌, ℤ, Ok, Err, Result, sym, ap, ◌∙◌, arith, lit<}
 use Rattle.std.proofs.lemmas.Bool.{ne_eqb}
-use Rattle.std.specs.Result.{result_ok}
 use Rattle.model.specs.declared.refusal.Refusal.{Refusal}
 use Rattle.model.specs.declared.refusal.Refusal.TheVariants.{TapsLetters, TapsCount, TapValue, ConstraintLength, GeneratorCount, GeneratorValue, InversionWord, RunLength, CascadeStates, BitsWidth, SamplesHeld, NotAState, RecordFull, RewindBeyond, NoPath, BufferShort, RowShort, LineForm, LineRepeated, LineSet, BlockCut, BlockKind, BlockOrder, PayloadLength, BytesAfterEnd, RecordingLarge}
 use Rattle.model.specs.Refusals.{refusal_number, Refused, answer}
-use Rattle.paths.proofs.Listing.{never}
 use Rattle.records.specs.Held.{Held, take_check, taken}
 use Rattle.recordings.specs.Recordings.{call_fault, take_all}
 use Rattle.model.proofs.Cases.{not_ok}

@@ -22,9 +22,9 @@ pub const MOST_BYTES: usize = 65536;
 
 // A new record over the channel of a setup, anchored as the setup says.
 fn record_for(setup: &Setup) -> Listening<Channel, Erasing<ChannelMeasure>>
-    ensures trellis { channel_meaning result.trellis ≡ channel_of setup.now.trellis }
-    ensures measure { erasing (measure_meaning result.measure.below) ≡ measure_of setup.now.measure }
-    ensures held { result.held ≡ held_at_first setup.now }
+    ensures trellis { channel_meaning result.seen.trellis ≡ channel_of setup.now.trellis }
+    ensures measure { erasing (measure_meaning result.seen.measure.below) ≡ measure_of setup.now.measure }
+    ensures held { result.seen.held ≡ held_at_first setup.now }
 {
     let mut record = Listening::new(Channel::new(&setup.trellis), measure_from(&setup.measure));
     let _ = record.anchor(setup.start, setup.end);

@@ -45,8 +45,8 @@ fn take_samples<T: Trellis, M: Measure>(
     payload: &[u8],
     place: usize,
 ) -> Result<(), Fault>
-    ensures held { held_then (outcome result) «record».new.held ≡ take_all place «record».old.held (samples_of payload.now) }
-    ensures others { «record».new ≡ with_held «record».old «record».new.held }
+    ensures held { held_then (outcome result) «record».new.seen.held ≡ take_all place «record».old.seen.held (samples_of payload.now) }
+    ensures others { «record».new.seen ≡ with_held «record».old.seen «record».new.seen.held }
 {
     for sample in Samples::new(payload) {
         at_block(record.take(sample), place)?;
@@ -60,8 +60,8 @@ pub(crate) fn read_blocks<T: Trellis, M: Measure>(
     from: usize,
     record: &mut Listening<T, M>,
 ) -> Result<usize, Fault>
-    ensures held { ended (outcome result) «record».new.held ≡ read_blocks (suc (length recording.now)) recording.now from «record».old.held }
-    ensures others { «record».new ≡ with_held «record».old «record».new.held }
+    ensures held { ended (outcome result) «record».new.seen.held ≡ read_blocks (suc (length recording.now)) recording.now from «record».old.seen.held }
+    ensures others { «record».new.seen ≡ with_held «record».old.seen «record».new.seen.held }
 {
     let mut place = from;
     while let (Block::Samples(payload), next) = block_at(recording, place, false)? {
@@ -88,8 +88,8 @@ pub(crate) fn detect_at<T: Trellis + Drop, M: Measure + Drop>(
     letters: &mut [u8],
     at: usize,
 ) -> Result<Outcome, Fault>
-    ensures value { outcome result ≡ outcome_in (detected (T.Trellis.meaning «record».trellis) (M.Measure.costs «record».measure) at (length letters.old) «record».held place) }
-    ensures letters { letters.new ≡ buffer_after (detected (T.Trellis.meaning «record».trellis) (M.Measure.costs «record».measure) at (length letters.old) «record».held place) at letters.old }
+    ensures value { outcome result ≡ outcome_in (detected (T.Trellis.meaning «record».seen.trellis) (M.Measure.costs «record».seen.measure) at (length letters.old) «record».seen.held place) }
+    ensures letters { letters.new ≡ buffer_after (detected (T.Trellis.meaning «record».seen.trellis) (M.Measure.costs «record».seen.measure) at (length letters.old) «record».seen.held place) at letters.old }
 {
     let samples = record.held();
     let settled = record.settle();

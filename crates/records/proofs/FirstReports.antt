@@ -14,7 +14,7 @@ use Rattle.survivors.specs.declared.standing.Standing.{Standing}
 use Rattle.survivors.proofs.Firsts.{ends_at}
 use Rattle.records.specs.declared.report.Report.{Report}
 use Rattle.records.specs.Held.{Held}
-use Rattle.records.specs.Seen.{Chosen}
+use Rattle.records.specs.Seen.{Shown as RecordShown}
 use Rattle.records.specs.Reports.{has_room, path_check, if_reported, written, with_letters, report_from, report_of, reported_path, AnswersReport}
 
 -- ---- the first path
@@ -70,7 +70,7 @@ module _ (d : Diagram) (cost : ℤ → ℤ → ℕ) (h : Held) (place : ℕ) (ol
     pub law : AnswersReport d cost h place r old new
 
 -- the same of what a record shows
-pub along : {T M : Type 0} (meaning : T → Diagram) (costs : M → ℤ → ℤ → ℕ) (place : ℕ) (old new : List ℕ) (r : Result Report Refusal) {v w : Chosen T M} → v ≡ w →
+pub along : {T M : Type 0} (meaning : T → Diagram) (costs : M → ℤ → ℤ → ℕ) (place : ℕ) (old new : List ℕ) (r : Result Report Refusal) {v w : RecordShown T M} → v ≡ w →
     Shown (meaning v.seen.trellis) (costs v.seen.measure) v.seen.held place old r new → Shown (meaning w.seen.trellis) (costs w.seen.measure) w.seen.held place old r new
 along meaning costs place old new r e s = subst (λ v. Shown (meaning v.seen.trellis) (costs v.seen.measure) v.seen.held place old r new) e s
 

@@ -14,15 +14,15 @@ is_settled (Listening l) = false
 is_settled (Settled s) = true
 
 abbrev pub held_in : {T M : Type 0} → Record T M → Held
-held_in (Listening l) = l.held
+held_in (Listening l) = l.seen.held
 held_in (Settled s) = s.seen.held
 
 abbrev pub trellis_of : {T M : Type 0} → Record T M → T
-trellis_of (Listening l) = l.trellis
+trellis_of (Listening l) = l.seen.trellis
 trellis_of (Settled s) = s.seen.trellis
 
 abbrev pub measure_of : {T M : Type 0} → Record T M → M
-measure_of (Listening l) = l.measure
+measure_of (Listening l) = l.seen.measure
 measure_of (Settled s) = s.seen.measure
 
 -- what a call answers, as a number: 0 or the refusal's; nothing where the record has no such call

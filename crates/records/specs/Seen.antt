@@ -8,8 +8,8 @@ pub record Seen (T M : Type 0) : Type 0 where
   pub measure : M
   pub held : Held
 
--- and, once it is settled, a byte for each step and state
-pub record Chosen (T M : Type 0) : Type 0 where
+-- and a byte for each step and state, which settling makes those of what it holds
+pub record Shown (T M : Type 0) : Type 0 where
   pub seen : Seen T M
   pub choices : List ℕ
 

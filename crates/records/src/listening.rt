@@ -22,13 +22,13 @@ pub struct Listening<T: Trellis, M: Measure> {
 }
 
 impl<T: Trellis, M: Measure> Model for Listening<T, M> {
-    ghost use Rattle.records.specs.Seen.{Seen};
+    ghost use Rattle.records.specs.Seen.{Shown};
 
-    ghost Value = { Seen T M };
+    ghost Value = { Shown T M };
 
     ghost use Rattle.records.specs.Tables.{held_of};
 
-    ghost view = { λ l. record { trellis = l.trellis; measure = l.measure; held = held_of l.table } };
+    ghost view = { λ l. record { seen = record { trellis = l.trellis; measure = l.measure; held = held_of l.table }; choices = l.table.choices } };
 }
 
 // The state that a number names, if there is a number.
@@ -58,7 +58,7 @@ fn both_named<T: Trellis>(
 impl<T: Trellis, M: Measure> Listening<T, M> {
     // A new record: from state 0 to any state, and no samples.
     pub fn new(trellis: T, measure: M) -> Listening<T, M>
-        ensures { result ≡ new_record trellis measure }
+        ensures { result.seen ≡ new_record trellis measure }
     {
         let table = Table {
             start: Some(0),
@@ -75,15 +75,15 @@ impl<T: Trellis, M: Measure> Listening<T, M> {
 
     // How many samples are held. A question, which changes nothing.
     pub fn held(&self) -> usize
-        ensures { result ≡ length self.now.held.samples }
+        ensures { result ≡ length self.now.seen.held.samples }
     {
         self.table.samples.len()
     }
 
     // Sets start and end, each the number of a state or left out, which permits any. Only before the first sample.
     pub fn anchor(&mut self, start: Option<i32>, end: Option<i32>) -> Result<(), Refusal>
-        ensures checked { answer result ≡ anchor_check (T.Trellis.meaning self.old.trellis) self.old.held start end }
-        ensures after { self.new ≡ with_held self.old (anchored (T.Trellis.meaning self.old.trellis) self.old.held start end) }
+        ensures checked { answer result ≡ anchor_check (T.Trellis.meaning self.old.seen.trellis) self.old.seen.held start end }
+        ensures after { self.new.seen ≡ with_held self.old.seen (anchored (T.Trellis.meaning self.old.seen.trellis) self.old.seen.held start end) }
         ensures unchanged { OnErr result (self.new ≡ self.old) }
     {
         if !self.table.samples.is_empty() {
@@ -97,8 +97,8 @@ impl<T: Trellis, M: Measure> Listening<T, M> {
 
     // Adds a sample at the end.
     pub fn take(&mut self, sample: i16) -> Result<(), Refusal>
-        ensures checked { answer result ≡ take_check self.old.held }
-        ensures after { self.new ≡ with_held self.old (taken self.old.held sample) }
+        ensures checked { answer result ≡ take_check self.old.seen.held }
+        ensures after { self.new.seen ≡ with_held self.old.seen (taken self.old.seen.held sample) }
         ensures unchanged { OnErr result (self.new ≡ self.old) }
     {
         let samples = &mut self.table.samples;
@@ -107,8 +107,8 @@ impl<T: Trellis, M: Measure> Listening<T, M> {
 
     // Keeps the first n samples.
     pub fn rewind(&mut self, n: usize) -> Result<(), Refusal>
-        ensures checked { answer result ≡ rewind_check self.old.held n }
-        ensures after { self.new ≡ with_held self.old (rewound self.old.held n) }
+        ensures checked { answer result ≡ rewind_check self.old.seen.held n }
+        ensures after { self.new.seen ≡ with_held self.old.seen (rewound self.old.seen.held n) }
         ensures unchanged { OnErr result (self.new ≡ self.old) }
     {
         if n > self.table.samples.len() {

@@ -18,9 +18,9 @@ pub struct Settled<T: Trellis, M: Measure> {
 
 // The bytes and the standing are those of its own trellis, measure, start, end and samples.
 impl<T: Trellis, M: Measure> Model for Settled<T, M> {
-    ghost use Rattle.records.specs.Seen.{Chosen};
+    ghost use Rattle.records.specs.Seen.{Shown};
 
-    ghost Value = { Chosen T M };
+    ghost Value = { Shown T M };
 
     ghost use Rattle.records.specs.Tables.{held_of};
     ghost use Rattle.records.specs.Sound.{Sound};

@@ -11,8 +11,8 @@ use model::trellis::Trellis;
 impl<T: Trellis, M: Measure> Listening<T, M> {
     // Makes the choices for the samples held, whatever was chosen before.
     pub fn settle(self) -> Settled<T, M>
-        ensures seen { result.seen ≡ self }
-        ensures chosen { TableOf (T.Trellis.meaning self.trellis) (M.Measure.costs self.measure) self.held.start self.held.samples result.choices }
+        ensures seen { result.seen ≡ self.seen }
+        ensures chosen { TableOf (T.Trellis.meaning self.seen.trellis) (M.Measure.costs self.seen.measure) self.seen.held.start self.seen.held.samples result.choices }
     {
         let Listening {
             trellis,
@@ -32,7 +32,7 @@ impl<T: Trellis, M: Measure> Listening<T, M> {
 impl<T: Trellis, M: Measure> Settled<T, M> {
     // Listens again, with the same start, end and samples.
     pub fn resume(self) -> Listening<T, M>
-        ensures { result ≡ self.seen }
+        ensures { result ≡ self }
     {
         let Settled {
             trellis,

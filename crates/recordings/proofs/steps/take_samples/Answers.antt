@@ -9,5 +9,5 @@ returns-in_err-at_block-clause-held g c =
     let l = c.loop-sample in
     let e = err_from_is_err_and c.from_residual.result c.from_residual.ensures.1 in
     let first : l.sample-iterator ≡ c.in-Some.sample ∷ c.next.new.self = search rules in
-    let no = taken_no c.args.place l.record.held c.in-Some.sample c.next.new.self c.take.result _ c.in_err-at_block.ensures c.take.ensures.checked in
-    rw (e.1, e.2) (no ∙ ap (take_all c.args.place l.record.held) (sym first) ∙ l.invariant.0)
+    let no = taken_no c.args.place l.record.seen.held c.in-Some.sample c.next.new.self c.take.result _ c.in_err-at_block.ensures c.take.ensures.checked in
+    rw (e.1, e.2) (no ∙ ap (take_all c.args.place l.record.seen.held) (sym first) ∙ l.invariant.0)

@@ -6,5 +6,5 @@ use Rattle.recordings.proofs.steps.take_samples.Given as goal
 
 abbrev pub invariant-loop-sample : goal.invariant-loop-sample
 invariant-loop-sample g l =
-    (take_all l.place l.record.held l.sample-iterator ≡ take_all l.place l.initial.record.held (samples_of l.payload))
-    × (l.record ≡ with_held l.initial.record l.record.held)
+    (take_all l.place l.record.seen.held l.sample-iterator ≡ take_all l.place l.initial.record.seen.held (samples_of l.payload))
+    × (l.record.seen ≡ with_held l.initial.record.seen l.record.seen.held)
