@@ -6,7 +6,8 @@ ghost use Rattle.arrays.specs.Lists.{list_from, list_items, with_last};
 #[derive(Clone, Copy, Debug, PartialEq, Eq)]
 pub struct Full;
 
-// The first `len` items count; behind them stands what the list was made with or held once.
+// The first `len` items count; behind them stands what the list was made with or held once. `len` is never more than N;
+// no ghost field says so, since each definition that makes a list would have to show it, and a minimum costs nothing.
 #[derive(Clone, Copy)]
 pub struct FixedList<T, const N: usize> {
     items: [T; N],

@@ -5,12 +5,11 @@ ghost use Rattle.blocks.specs.Kinds.{kind_of, may_stand, may_carry, may_precede}
 
 use model::refusal::Refusal;
 
-// Each kind with its number.
 #[derive(Clone, Copy, Debug, PartialEq, Eq)]
 pub enum Kind {
-    Description = 1,
-    Samples = 2,
-    End = 3,
+    Description,
+    Samples,
+    End,
 }
 
 // The kind that a number stands for, if it stands for one.

@@ -38,6 +38,7 @@ impl Iterator for Samples<'_> {
     ghost remaining = { item_count (λ left. left) };
 
     fn next(&mut self) -> Option<i16> {
+        // A slice pattern: of split_first_chunk a proof would not know what is left.
         let [low, high, bytes @ ..] = self.bytes else {
             return None;
         };

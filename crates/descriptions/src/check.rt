@@ -32,6 +32,7 @@ fn at<T: Drop>(answered: Result<T, Refusal>, place: usize) -> Result<(), Fault>
         .map_err(|refusal| refusal.at(Layer::Makers, place))
 }
 
+// A line and its place come apart in the checks: a setup has the lines, and the lines that are held have the places.
 fn check_taps(line: &TapsLine, place: usize) -> Result<(), Fault>
     ensures { faulted result ≡ fault_or_none (taps_answer line.now) place }
 {

@@ -17,7 +17,7 @@ pub struct Bits {
 }
 
 impl Bits {
-    // Whether a number is a width.
+    // Whether a number is a width. A test and its two answers: `then_some` and `ok_or` would say them backwards.
     pub fn check(width: i32) -> Result<(), Refusal>
         ensures { answer result ≡ bits_check width }
     {

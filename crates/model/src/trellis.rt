@@ -36,17 +36,11 @@ impl<T: Trellis> Trellis for Option<T> {
     ghost lawful = { λ t. or_bare_lawful T.Trellis.meaning T.Trellis.lawful t };
 
     fn states(&self) -> usize {
-        match self {
-            Some(trellis) => trellis.states(),
-            None => 1,
-        }
+        self.as_ref().map_or(1, |trellis| trellis.states())
     }
 
     fn letters(&self) -> usize {
-        match self {
-            Some(trellis) => trellis.letters(),
-            None => 1,
-        }
+        self.as_ref().map_or(1, |trellis| trellis.letters())
     }
 
     fn branch(&self, state: usize, letter: usize) -> Option<(usize, i16)> {

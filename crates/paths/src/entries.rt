@@ -60,7 +60,8 @@ fn add_at<A: Algebra>(algebra: &A, row: &mut [A::Weight], state: usize, weight: 
     row[state] = algebra.plus(row[state], weight);
 }
 
-// Adds to the entries what the branches bring of the weights in another row, on one sample.
+// Adds to the entries what the branches bring of the weights in another row, on one sample. What a pass holds comes in
+// parts, since a row hands its slice to functions that know of slices alone.
 pub(crate) fn extend_entries<M: Measure, A: Algebra>(
     branches: &[ListedBranch],
     measure: &M,

@@ -63,6 +63,7 @@ pub(crate) fn read_blocks<T: Trellis, M: Measure>(
     ensures held { ended (outcome result) «record».new.seen.held ≡ read_blocks (suc (length recording.now)) recording.now from «record».old.seen.held }
     ensures others { «record».new.seen ≡ with_held «record».old.seen «record».new.seen.held }
 {
+    // The place is kept by the loop, since that of the end block is the answer.
     let mut place = from;
     while let (Block::Samples(payload), next) = block_at(recording, place, false)? {
         take_samples(record, payload, place)?;

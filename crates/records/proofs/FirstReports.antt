@@ -11,6 +11,7 @@ use Rattle.paths.specs.Cheapest.{cheapest_paths, ties, first_path, second}
 use Rattle.paths.specs.Laws.{First, HasNoPath, IsFirst, IsSecond}
 use Rattle.paths.proofs.Firsts.{first_found, one_first, second_found, cheapest_listed}
 use Rattle.survivors.specs.declared.standing.Standing.{Standing}
+use Rattle.survivors.specs.Choices.{TableOf}
 use Rattle.survivors.proofs.Firsts.{ends_at}
 use Rattle.records.specs.declared.report.Report.{Report}
 use Rattle.records.specs.Held.{Held}
@@ -68,6 +69,11 @@ module _ (d : Diagram) (cost : ℤ → ℤ → ℕ) (h : Held) (place : ℕ) (ol
     pub checked : answer r ≡ path_check (reported_path d cost h) room
     pub buffer : new ≡ written (reported_path d cost h) room place old
     pub law : AnswersReport d cost h place r old new
+
+-- the bytes of a settled record are those that it shows
+pub table_seen : {T M : Type 0} (meaning : T → Diagram) (costs : M → ℤ → ℤ → ℕ) {v w : RecordShown T M} → v ≡ w →
+    TableOf (meaning v.seen.trellis) (costs v.seen.measure) v.seen.held.start v.seen.held.samples v.choices → TableOf (meaning w.seen.trellis) (costs w.seen.measure) w.seen.held.start w.seen.held.samples w.choices
+table_seen meaning costs e t = subst (λ v. TableOf (meaning v.seen.trellis) (costs v.seen.measure) v.seen.held.start v.seen.held.samples v.choices) e t
 
 -- the same of what a record shows
 pub along : {T M : Type 0} (meaning : T → Diagram) (costs : M → ℤ → ℤ → ℕ) (place : ℕ) (old new : List ℕ) (r : Result Report Refusal) {v w : RecordShown T M} → v ≡ w →

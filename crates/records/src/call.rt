@@ -1,4 +1,4 @@
-// A call of a record, with its arguments.
+// A call of a record, with its arguments: a value and no closure, since the law is about lists of calls.
 #[derive(Clone, Copy, Debug, PartialEq, Eq)]
 pub enum Call {
     // The numbers of start and end, each left out or any number.

@@ -1,9 +1,10 @@
 // A record that takes samples.
-ghost use Rattle.std.specs.Prelude.{◌≡◌, length, if◌then◌else◌, Some, None, OnErr};
+ghost use Rattle.std.specs.Prelude.{◌≡◌, ◌≤◌, length, if◌then◌else◌, Some, None, OnErr};
 ghost use Rattle.std.specs.Result.{result_ok};
 ghost use Rattle.model.specs.declared.refusal.Refusal.TheVariants.{NotAState};
 ghost use Rattle.model.specs.Refusals.{refusal_number, answer};
 ghost use Rattle.records.specs.Held.{Held, new_held, is_named, named, both_named, named_check, anchor_check, anchored, take_check, taken, rewind_check, rewound};
+ghost use Rattle.survivors.specs.Choices.{most_samples};
 ghost use Rattle.records.specs.Seen.{with_held, new_record};
 
 use crate::table::Table;
@@ -75,7 +76,8 @@ impl<T: Trellis, M: Measure> Listening<T, M> {
 
     // How many samples are held. A question, which changes nothing.
     pub fn held(&self) -> usize
-        ensures { result ≡ length self.now.seen.held.samples }
+        ensures value { result ≡ length self.now.seen.held.samples }
+        ensures within { length self.now.seen.held.samples ≤ most_samples }
     {
         self.table.samples.len()
     }

@@ -38,7 +38,8 @@ fn turn(settled: bool, call: Call) -> bool
     }
 }
 
-// How many calls of a list, from its first on, the states allow.
+// How many calls of a list, from its first on, the states allow. A loop, since each call is judged in the state after those
+// before it, which `position` would have to carry.
 fn count_allowed(calls: &[Call]) -> usize
     ensures { result ≡ allowed calls.now }
 {

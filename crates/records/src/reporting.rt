@@ -4,6 +4,7 @@ ghost use Rattle.std.specs.Option.{ok_or};
 ghost use Rattle.std.specs.Result.{result_ok};
 ghost use Rattle.model.specs.declared.refusal.Refusal.TheVariants.{NoPath};
 ghost use Rattle.model.specs.Refusals.{answer};
+ghost use Rattle.survivors.specs.Choices.{TableOf};
 ghost use Rattle.records.specs.Asked.{path_in, room_in, report_in};
 ghost use Rattle.records.specs.Reports.{has_room, path_check, if_reported, written, AnswersReport};
 
@@ -37,6 +38,7 @@ impl<T: Trellis, M: Measure> Settled<T, M> {
         ensures value { result_ok result ≡ if_reported (path_in T.Trellis.meaning M.Measure.costs self.now.seen) (room_in self.now.seen place buffer.old) (report_in T.Trellis.meaning M.Measure.costs self.now.seen) }
         ensures checked { answer result ≡ path_check (path_in T.Trellis.meaning M.Measure.costs self.now.seen) (room_in self.now.seen place buffer.old) }
         ensures buffer { buffer.new ≡ written (path_in T.Trellis.meaning M.Measure.costs self.now.seen) (room_in self.now.seen place buffer.old) place buffer.old }
+        ensures chosen { TableOf (T.Trellis.meaning self.now.seen.trellis) (M.Measure.costs self.now.seen.measure) self.now.seen.held.start self.now.seen.held.samples self.now.choices }
         ensures law { AnswersReport (T.Trellis.meaning self.now.seen.trellis) (M.Measure.costs self.now.seen.measure) self.now.seen.held place result buffer.old buffer.new }
     {
         let standing = path_standing(self.standing)?;

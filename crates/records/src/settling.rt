@@ -32,7 +32,8 @@ impl<T: Trellis, M: Measure> Listening<T, M> {
 impl<T: Trellis, M: Measure> Settled<T, M> {
     // Listens again, with the same start, end and samples.
     pub fn resume(self) -> Listening<T, M>
-        ensures { result ≡ self }
+        ensures same { result ≡ self }
+        ensures chosen { TableOf (T.Trellis.meaning self.seen.trellis) (M.Measure.costs self.seen.measure) self.seen.held.start self.seen.held.samples self.choices }
     {
         let Settled {
             trellis,

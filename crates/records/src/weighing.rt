@@ -4,6 +4,7 @@ ghost use Rattle.std.specs.Result.{result_ok};
 ghost use Rattle.model.specs.Refusals.{answer};
 ghost use Rattle.paths.specs.Laws.{AnyList};
 ghost use Rattle.paths.specs.Rows.{row_check, if_long_enough, RowsLeft};
+ghost use Rattle.survivors.specs.Choices.{TableOf};
 ghost use Rattle.records.specs.Held.{Held};
 ghost use Rattle.records.specs.Asked.{sum_in};
 
@@ -26,6 +27,7 @@ impl<T: Trellis, M: Measure> Settled<T, M> {
         ensures value { result_ok result ≡ if_long_enough (T.Trellis.meaning self.now.seen.trellis) first.old second.old (sum_in T.Trellis.meaning M.Measure.costs A.Algebra.semiring self.now.seen) }
         ensures checked { answer result ≡ row_check (T.Trellis.meaning self.now.seen.trellis) first.old second.old }
         ensures rows { RowsLeft (T.Trellis.meaning self.now.seen.trellis) (M.Measure.costs self.now.seen.measure) A.Algebra.semiring self.now.seen.held.start self.now.seen.held.samples first.old first.new second.old second.new }
+        ensures chosen { TableOf (T.Trellis.meaning self.now.seen.trellis) (M.Measure.costs self.now.seen.measure) self.now.seen.held.start self.now.seen.held.samples self.now.choices }
         ensures law { IfOk result (AnyList (T.Trellis.meaning self.now.seen.trellis) (M.Measure.costs self.now.seen.measure) A.Algebra.semiring self.now.seen.held.start self.now.seen.held.end self.now.seen.held.samples) }
     {
         forward(

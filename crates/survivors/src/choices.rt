@@ -115,7 +115,8 @@ pub(crate) fn rank_costs(row: &[Rank; MOST_STATES]) -> [Option<u64>; MOST_STATES
 
 // Fills a table with the chosen branches: the byte of a step and a state, 0 where no path arrives there and where
 // there is no such sample or state. A start that is no state permits no path, and only the first 512 samples count.
-// Answers what the first of the cheapest paths to each state costs on all of them.
+// Answers what the first of the cheapest paths to each state costs on all of them. What a pass reads stays in arguments of
+// their own, as callers of choose and survey hold them.
 pub fn choose<T: Trellis, M: Measure>(
     trellis: &T,
     measure: &M,

@@ -20,7 +20,8 @@ fn better(best: Option<Ending>, last: usize, cost: Option<u64>) -> Option<Ending
     }
 }
 
-// The least cost of a permitted last state among the first n, and the first state that has it.
+// The least cost of a permitted last state among the first n, and the first state that has it. A loop, as the total of a
+// row of weights is: a filter and a fold say no more.
 fn cheapest(row: &[Option<u64>], n: usize, end: Option<usize>) -> Option<Ending>
     requires { n ≤ length row.now }
     ensures { option_map cost_and_last result ≡ scan (at_end end (held row.now)) n }

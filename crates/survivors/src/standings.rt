@@ -18,7 +18,7 @@ use model::measure::Measure;
 use model::trellis::Trellis;
 use paths::anchor::is_permitted;
 
-// The ranks of the first n states that the end permits, as one.
+// The ranks of the first n states that the end permits, as one. A loop, since they are joined in place.
 fn gather(row: &[Rank; MOST_STATES], n: usize, end: Option<usize>) -> Rank
     requires few { n ≤ most_states }
     requires sounds { Sounds (2 ^ 61) row.now }

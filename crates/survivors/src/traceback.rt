@@ -41,6 +41,7 @@ pub fn trace(choices: &[u8; TABLE_SIZE], last: usize, letters: &mut [u8]) -> Opt
     ensures letters { letters.new ≡ traced_letters choices.now last letters.old }
     ensures path { Traced choices.now last letters.new result }
 {
+    // An if and not `then`: on this side letters are written, and nothing on the other.
     if has(last, letters.len()) {
         Some(walk_back(choices, last, letters))
     } else {

@@ -105,6 +105,10 @@ four_few k h = let p : k - 1 ≤ 3 = omega arith in pow-le-pow_right {n = 4} (om
 pub accepted : (letters : ℤ) (hs : List ℤ) → 0 ≡ taps_check letters hs → record { within : length hs ≤ 7; small : taps_fit hs ≡ true }
 accepted letters hs e = search rules
 
+pub accepted_sizes : (letters : ℤ) (hs : List ℤ) → 0 ≡ taps_check letters hs → record { two : 2 ≤ unsigned_abs letters; four : unsigned_abs letters ≤ 4; some : 1 ≤ length hs }
+accepted_sizes (pos n) hs e = record { two = grind (arith, nat_tests); four = grind (arith, nat_tests); some = grind (arith, nat_tests) }
+accepted_sizes (negsuc n) hs e = absurd (omega arith)
+
 pub accepted_few : (letters : ℤ) (hs : List ℤ) → 0 ≡ taps_check letters hs → unsigned_abs letters ^ memory hs ≤ most_states
 accepted_few (pos n) hs e = grind (arith, two_few, four_few, nat_tests)
 accepted_few (negsuc n) hs e = absurd (omega arith)

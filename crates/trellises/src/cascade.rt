@@ -16,7 +16,7 @@ pub struct Cascade<O, I> {
 }
 
 impl<O: Trellis, I: Trellis> Cascade<O, I> {
-    // Whether the two have few enough states together.
+    // Whether the two have few enough states together; a test and its two answers, as in a run-length limit.
     pub fn check(outer: &O, inner: &I) -> Result<(), Refusal>
         ensures { answer result ≡ cascade_check (O.Trellis.meaning outer.now) (I.Trellis.meaning inner.now) }
     {

@@ -18,7 +18,7 @@ use limits::Limits;
 pub type RunLength = OrBare<Limits>;
 
 impl RunLength {
-    // Whether d and k are limits.
+    // Whether d and k are limits. A test and its two answers: `then_some` and `ok_or` would say them backwards.
     pub fn check(d: i32, k: i32) -> Result<(), Refusal>
         ensures { answer result ≡ run_length_check d k }
     {
