@@ -12,8 +12,9 @@ impl Measure for Square {
 
     ghost bounded = { Prim.search rules };
 
+    // In 32 bits: `abs_diff` of the two takes four instructions more in the loop that asks, and was measured so.
     fn cost(&self, label: i16, sample: i16) -> u32 {
-        let apart = u32::from(label.abs_diff(sample));
+        let apart = (i32::from(label) - i32::from(sample)).unsigned_abs();
         apart * apart
     }
 }
