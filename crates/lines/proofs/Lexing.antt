@@ -19,6 +19,9 @@ module _ (r a : List ℕ) (n : ℕ) (run : n ≡ prefix_len is_space r) (rest : 
   pub none_left : length a ≡ 0 → words r ≡ []
   none_left h = same ∙ ap words (nil_from_length a h)
 
+  pub none_here : length a ≡ 0 → words a ≡ []
+  none_here h = ap words (nil_from_length a h)
+
   pub no_word : length a ≡ 0 → (p : ℕ) → None ≡ handed p
   no_word h p = let past : ltb (prefix_len is_space r) (length r) ≡ false = le-ltb _ _ (omega (arith, length-drop n r, ap length rest)) in rw past
 

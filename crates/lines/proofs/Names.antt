@@ -1,8 +1,10 @@
--- A name writes no number.
-use Rattle.std.proofs.Common.{◌≡◌, ℕ, ◌+◌, ◌-◌, ◌*◌, ◌≤◌, Bool, true, false, cond, ◌&&◌, eqb, ltb, leb, List, [], ◌∷◌, length, drop, pos, Some, None, Option, sym, refl, ap, ◌∙◌, subst, arith, Bor, le-leb}
+-- A name writes no number, and a figure is not `any`.
+use Rattle.std.proofs.Common.{◌≡◌, ℕ, ◌+◌, ◌-◌, ◌*◌, ◌≤◌, Bool, true, false, cond, ◌&&◌, eqb, ltb, leb, List, [], ◌∷◌, length, drop, pos, Some, None, codes, Option, sym, refl, ap, ◌∙◌, subst, arith, Bor, le-leb}
 use borrow.Author.Tests.{clash}
+use Rattle.std.proofs.lemmas.Slice.Eq.{bytes_eq-Decides}
 use Rattle.std.proofs.lemmas.Bool.{and_parts, ltb-true, eqb-true}
 use Rattle.std.specs.Option.{option_map}
+use Rattle.std.specs.Str.{bytes_eq}
 use Rattle.lines.specs.declared.lexer.Lexer.{Lexer}
 use Rattle.lines.specs.declared.lexer.Word.{Word}
 use Rattle.lines.specs.declared.lexer.Word.TheVariants.{Name, Figure}
@@ -65,6 +67,14 @@ name_no_number Decimal (b ∷ bs) h = sym (decimal_by b bs (eqb b 45) (sym h))
 name_no_number Octal [] h = refl
 name_no_number Octal (b ∷ bs) h = sym (ap (option_map pos) (no_numeral 8 (b ∷ bs) (omega arith) (octal_by b bs (eqb b 45) refl (sym h))))
 
+-- a figure is another word than `any`
+any_by : (w : List ℕ) (t : Bool) → bytes_eq w (codes "any") ≡ t → true ≡ figure w → t ≡ false
+any_by w true e h = let same : w ≡ codes "any" = (bytes_eq-Decides w (codes "any")).0 e in absurd (clash (sym (h ∙ ap figure same)))
+any_by w false e h = refl
+
+pub figure_not_any : (w : List ℕ) → true ≡ figure w → bytes_eq w (codes "any") ≡ false
+figure_not_any w h = any_by w (bytes_eq w (codes "any")) refl h
+
 -- the number of the first word
 pub first_number_at : (r : Radix) (ws : List (List ℕ)) {w : List ℕ} → Some w ≡ first ws → number_in r w ≡ first_number r ws
 first_number_at r ws {w} e = ap (first_number r) (sym (first_of ws e))
@@ -79,3 +89,6 @@ module _ (l : Lexer) (word : Word) (says : Some (spelled word) ≡ next_word l) 
 
   pub name_first : (b : Bor (List ℕ)) (p : ℕ) (r : Radix) → word ≡ Name b p → None ≡ number_in r b.now
   name_first b p r e = name_no_number r b.now (sym (ap (λ (x : Word). (spelled x).is_figure) e) ∙ kind ∙ ap (λ (x : Word). figure (word_bytes x)) e)
+
+  pub figure_first : (b : Bor (List ℕ)) (p : ℕ) → word ≡ Figure b p → bytes_eq b.now (codes "any") ≡ false
+  figure_first b p e = figure_not_any b.now (sym (ap (λ (x : Word). (spelled x).is_figure) e) ∙ kind ∙ ap (λ (x : Word). figure (word_bytes x)) e)

@@ -78,6 +78,8 @@ impl<'a> Lexer<'a> {
         ensures rest { self.new.rest.now ≡ drop (self.new.at - self.old.at) self.old.rest.now }
     {
         let start = self.ahead(leading_spaces(self.rest));
+        // Spaces are passed once, also where no word follows them.
+        *self = start;
         if start.rest.is_empty() {
             return None;
         }

@@ -22,6 +22,20 @@ placed f ws i w d h under e =
     (get_or-set_same ws i w d h ∙ e)
 
 module _ {W : Type 0} (r : Semiring W) (laws : Laws r) where
+  -- sums that grow by one term at each entry
+  pub gathered_more : (n a : ℕ) (f : ℕ → ℕ → W) (u v w : List W) →
+      Entries n (λ k. r.plus (get_or u k r.zero) (total r (f k) (below a))) u v →
+      Entries n (λ k. r.plus (get_or v k r.zero) (f k a)) v w →
+      Entries n (λ k. r.plus (get_or u k r.zero) (total r (f k) (below (a + 1)))) u w
+  gathered_more n a f u v w p q = record {
+    entry = λ k d l.
+        q.entry k d l
+        ∙ ap (λ y. r.plus y (f k a)) (p.entry k r.zero l)
+        ∙ laws.plus_assoc (get_or u k r.zero) (total r (f k) (below a)) (f k a)
+        ∙ ap (r.plus (get_or u k r.zero)) (sym (total_more r laws (f k) a));
+    rest = q.rest ∙ p.rest;
+  }
+
   pub at_place : (ws : List W) (t k : ℕ) (v d : W) (b : Bool) → eqb k t ≡ b → t < length ws → k < length ws →
       get_or (set ws t (r.plus (get_or ws t r.zero) v)) k d ≡ r.plus (get_or ws k r.zero) (cond b v r.zero)
   at_place ws t k v d true e h l =

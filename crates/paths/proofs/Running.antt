@@ -1,7 +1,7 @@
 -- Rows from sample to sample.
-use Rattle.std.proofs.Common.{◌≡◌, ℕ, ◌-◌, ◌<◌, ◌≤◌, cond, List, [], ◌∷◌, length, get_or, take, drop, ℤ, pos, Some, Option, sym, ap, ◌∙◌, subst, arith, take_all}
+use Rattle.std.proofs.Common.{◌≡◌, ℕ, ◌+◌, ◌-◌, ◌<◌, ◌≤◌, cond, List, [], ◌∷◌, ◌++◌, length, get_or, take, drop, ℤ, pos, Some, Option, sym, refl, ap, ◌∙◌, subst, arith, take-append-drop, take_all}
 use Rattle.std.specs.Borrow.{MutBor}
-use Rattle.std.proofs.lemmas.List.{get_or_default}
+use Rattle.std.proofs.lemmas.List.{get_or_default, take_more}
 use Rattle.model.specs.Trellises.{Diagram, Lawful}
 use Rattle.algebras.specs.Semirings.{Semiring, Laws}
 use Rattle.paths.specs.declared.branch.ListedBranch.{ListedBranch}
@@ -15,7 +15,7 @@ use Rattle.paths.specs.FlatRecursion.{with_branches}
 use Rattle.paths.proofs.Totals.{total_below}
 use Rattle.paths.proofs.Branching.{all_within, all_bring}
 use Rattle.paths.proofs.Rowing.{extended_clear}
-use Rattle.paths.proofs.Summing.{answer, entry}
+use Rattle.paths.proofs.Summing.{answer, entry, after_push}
 
 -- a row on its way: after the samples ys that are left it is what the row us is after all of xs
 pub record Underway {W : Type 0} (d : Diagram) (cost : ℤ → ℤ → ℕ) (r : Semiring W) (xs ys : List ℤ) (us ws : List W) : Type 0 where
@@ -87,6 +87,47 @@ module _ {W : Type 0} (r : Semiring W) (laws : Laws r) (cost : ℤ → ℤ → �
         total_below r laws (λ s. cond (permits end s) (get_or u₂ s r.zero) r.zero) (λ s. cond (permits end s) (after d cost r (opened r start) xs s) r.zero) d.states
         (λ s l. ap (λ y. cond (permits end s) y r.zero) (arrives s r.zero l))
         ∙ sym (answer d cost r laws lawful start end xs)
+
+  -- two samples more, of any row before the first
+  pub run_more_two : (row : ℕ → W) (xs : List ℤ) (i : ℕ) (x y : ℤ) (u v w : List W) → i + 1 < length xs → x ≡ get_or xs i x → y ≡ get_or xs (i + 1) y →
+      Entries d.states (after d cost r row (take i xs)) u v →
+      Entries d.states (after d cost r (λ s. get_or v s r.zero) (x ∷ y ∷ [])) v w →
+      Entries d.states (after d cost r row (take (i + 2) xs)) u w
+  run_more_two row xs i x y u v w h e f p q = record {
+    entry = λ k c l.
+        q.entry k c l
+        ∙ after_same (x ∷ y ∷ []) (λ s. get_or v s r.zero) (after d cost r row (take i xs)) (λ s m. p.entry s r.zero m) k l
+        ∙ sym (ap (λ g. g k) (
+        ap (after d cost r row) (ap (λ j. take j xs) (let z : i + 2 ≡ i + 1 + 1 = omega arith in z) ∙ take_more xs (i + 1) y h ∙ ap (λ z. take (i + 1) xs ++ (z ∷ [])) (sym f))
+        ∙ after_push d cost r laws row (take (i + 1) xs) y
+        ∙ ap (stepped d cost r y) (ap (after d cost r row) (take_more xs i x (omega arith) ∙ ap (λ z. take i xs ++ (z ∷ [])) (sym e)) ∙ after_push d cost r laws row (take i xs) x)));
+    rest = q.rest ∙ p.rest;
+  }
+
+  after_append : (row : ℕ → W) (xs ys : List ℤ) → after d cost r row (xs ++ ys) ≡ after d cost r (after d cost r row xs) ys
+  after_append row [] ys = refl
+  after_append row (x ∷ xs) ys = after_append (stepped d cost r x row) xs ys
+
+  -- the samples up to i, and then the others
+  pub run_rest : (row : ℕ → W) (xs : List ℤ) (i : ℕ) (u v w : List W) →
+      Entries d.states (after d cost r row (take i xs)) u v →
+      Entries d.states (after d cost r (λ s. get_or v s r.zero) (drop i xs)) v w →
+      Entries d.states (after d cost r row xs) u w
+  run_rest row xs i u v w p q = record {
+    entry = λ k c l.
+        q.entry k c l
+        ∙ after_same (drop i xs) (λ s. get_or v s r.zero) (after d cost r row (take i xs)) (λ s m. p.entry s r.zero m) k l
+        ∙ ap (λ g. g k) (sym (after_append row (take i xs) (drop i xs)) ∙ ap (after d cost r row) (take-append-drop i xs));
+    rest = q.rest ∙ p.rest;
+  }
+
+  -- a row of zeros counts as cleared
+  pub zero_none : (v : List W) → d.states ≤ length v → ((k : ℕ) → k < d.states → get_or v k r.zero ≡ r.zero) → Entries d.states (λ k. r.zero) v v
+  zero_none v h clear = record { entry = λ k e l. get_or_default v k e r.zero (omega arith) ∙ clear k l; rest = refl }
+
+-- entries that are written over
+pub over : {W : Type 0} (n : ℕ) (f g : ℕ → W) (u v w : List W) → Entries n f u v → Entries n g v w → Entries n g u w
+over n f g u v w p q = record { entry = q.entry; rest = q.rest ∙ p.rest }
 
 pub still_same : {W : Type 0} {u v w : MutBor (List W)} → SameSlice u v → SameSlice v w → SameSlice u w
 still_same p q = record { name = q.name ∙ p.name; len = q.len ∙ p.len }

@@ -1,3 +1,4 @@
 pub mod Keeping
 pub mod FirstReports
+pub mod Standings
 pub mod Runs

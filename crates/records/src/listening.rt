@@ -29,7 +29,7 @@ impl<T: Trellis, M: Measure> Model for Listening<T, M> {
 
     ghost use Rattle.records.specs.Tables.{held_of};
 
-    ghost view = { λ l. record { seen = record { trellis = l.trellis; measure = l.measure; held = held_of l.table }; choices = l.table.choices } };
+    ghost view = { λ l. record { seen = record { trellis = l.trellis; measure = l.measure; held = held_of l.table }; choices = l.table.choices; memory = l.table.samples } };
 }
 
 // The state that a number names, if there is a number.

@@ -25,7 +25,7 @@ impl<T: Trellis, M: Measure> Model for Settled<T, M> {
     ghost use Rattle.records.specs.Tables.{held_of};
     ghost use Rattle.records.specs.Sound.{Sound};
 
-    ghost view = { λ s. record { seen = record { trellis = s.trellis; measure = s.measure; held = held_of s.table }; choices = s.table.choices } };
+    ghost view = { λ s. record { seen = record { trellis = s.trellis; measure = s.measure; held = held_of s.table }; choices = s.table.choices; memory = s.table.samples } };
 
     ghost invariant = { λ s. Sound (T.Trellis.meaning s.trellis) (M.Measure.costs s.measure) s.table s.standing };
 }

@@ -275,7 +275,7 @@ module _ (cost : ℤ → ℤ → ℕ) (x : ℤ) (from row : List Rank) (bytes : 
   cap : Capped 64 (costs_in row)
   cap k l = let e : get_or (costs_in row) k 0 ≡ (get_or row k past).cost = cost_at row k (omega arith) in let s = (sr k l).sorted in let c = (sr k l).capped in omega arith
 
-  kept_rank : (g : ℕ → Option (ℕ × ℕ)) → KeptNumbers 64 g (costs_in row) bytes →
+  pub kept_rank : (g : ℕ → Option (ℕ × ℕ)) → KeptNumbers 64 g (costs_in row) bytes →
       KeptNumbers 64 (λ k. pick (g k) b.byte (offered_by cost x (reached_at (costs_in from)) k b)) (costs_in into) (set bytes b.next (cond (ltb (f.cost + w) h.cost) b.byte (get_or bytes b.next 0)))
   kept_rank g kept =
       let so_far : ℕ → Option (ℕ × ℕ) = λ k. pick (g k) b.byte (offered_by cost x (reached_at (costs_in from)) k b) in
@@ -286,7 +286,7 @@ module _ (cost : ℤ → ℤ → ℕ) (x : ℤ) (from row : List Rank) (bytes : 
       (ap (set (costs_in row) b.next) (ap₂ (λ u v. cond (ltb (u + w) v) (u + w) v) eu ev ∙ lesser_is (f.cost + w) h.cost) ∙ sym (map-set (λ a. a.cost) row b.next (joined_rank h f w)))
       k)
 
-  sounds_branch : (c : ℕ) → Sounds c from → Sounds (c + most_cost) row → Sounds (c + most_cost) into
+  pub sounds_branch : (c : ℕ) → Sounds c from → Sounds (c + most_cost) row → Sounds (c + most_cost) into
   sounds_branch c p q k l = go (eqb k b.next) refl
     where
       new : Sound (c + most_cost) (joined_rank h f w)
@@ -297,19 +297,19 @@ module _ (cost : ℤ → ℤ → ℕ) (x : ℤ) (from row : List Rank) (bytes : 
       go false e = subst (Sound (c + most_cost)) (sym (get_or-set_other row b.next k (joined_rank h f w) past (eqb-false k b.next e))) (q k l)
 
   module _ (bs : List ListedBranch) (i : ℕ) (lt : i < length bs) (e : b ≡ get_or bs i b) where
-    tied_branch : Brought cheapest_with_count tied cost x from (take i bs) row → Brought cheapest_with_count tied cost x from (take (i + 1) bs) into
+    pub tied_branch : Brought cheapest_with_count tied cost x from (take i bs) row → Brought cheapest_with_count tied cost x from (take (i + 1) bs) into
     tied_branch = brought_branch cheapest_with_count cost_count_laws tied cost x from row bs i b lt e (omega (arith, inside.1))
         (tied_joined h f w (omega arith) (sr b.next inside.1).sorted (sf b.from inside.0).sorted room room₂)
 
-    two_branch : Brought two_cheapest two cost x from (take i bs) row → Brought two_cheapest two cost x from (take (i + 1) bs) into
+    pub two_branch : Brought two_cheapest two cost x from (take i bs) row → Brought two_cheapest two cost x from (take (i + 1) bs) into
     two_branch = brought_branch two_cheapest two_laws two cost x from row bs i b lt e (omega (arith, inside.1))
         (two_joined h f w (omega arith) (sr b.next inside.1).sorted (sf b.from inside.0).sorted room room₂)
 
 -- before any branch
-brought_none : {W : Type 0} (r : Semiring W) (g : Rank → W) → g nowhere ≡ r.zero → (cost : ℤ → ℤ → ℕ) (x : ℤ) (from row : List Rank) → ((k : ℕ) → k < 64 → get_or row k past ≡ nowhere) → Brought r g cost x from [] row
+pub brought_none : {W : Type 0} (r : Semiring W) (g : Rank → W) → g nowhere ≡ r.zero → (cost : ℤ → ℤ → ℕ) (x : ℤ) (from row : List Rank) → ((k : ℕ) → k < 64 → get_or row k past ≡ nowhere) → Brought r g cost x from [] row
 brought_none r g e cost x from row clear t l = ap g (clear t l) ∙ e
 
-clear_costs : (row : List Rank) → length row ≡ 64 → ((k : ℕ) → k < 64 → get_or row k past ≡ nowhere) → (k : ℕ) → k < 64 → get_or (costs_in row) k 0 ≡ unreached
+pub clear_costs : (row : List Rank) → length row ≡ 64 → ((k : ℕ) → k < 64 → get_or row k past ≡ nowhere) → (k : ℕ) → k < 64 → get_or (costs_in row) k 0 ≡ unreached
 clear_costs row lr clear k l = cost_at row k (omega arith) ∙ ap (λ a. a.cost) (clear k l)
 
 pub advanced_none : (cost : ℤ → ℤ → ℕ) (x : ℤ) (from row : List Rank) (bytes : List ℕ) → length row ≡ 64 → row ≡ replicate 64 nowhere → Zeros bytes → Advanced cost x from [] row bytes

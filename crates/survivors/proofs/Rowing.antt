@@ -140,7 +140,7 @@ pub kept_same : (n : ℕ) (f g : ℕ → Option (ℕ × ℕ)) (row bytes : List 
 kept_same n f g row bytes h kept = record { cost = λ k l. kept.cost k l ∙ ap cost_in (h k); byte = λ k. kept.byte k ∙ ap byte_in (h k) }
 
 -- a scan over numbers that have no cost
-scan_idle : (f : ℕ → Option ℕ) (i d : ℕ) → ((j : ℕ) → i ≤ j → j < i + d → f j ≡ None) → scan f i ≡ scan f (i + d)
+pub scan_idle : (f : ℕ → Option ℕ) (i d : ℕ) → ((j : ℕ) → i ≤ j → j < i + d → f j ≡ None) → scan f i ≡ scan f (i + d)
 scan_idle f i zero h = ap (scan f) (let e : i ≡ i + 0 = omega arith in e)
 scan_idle f i (suc d) h =
     scan_idle f i d (λ j l m. h j l (omega arith)) ∙ sym (ap (pick (scan f (i + d)) (i + d)) (h (i + d) (omega arith) (omega arith)))

@@ -59,3 +59,7 @@ pick_least f n (Some b) h (Some c) e = split (ltb c b.0) refl
 pub scan_least : (f : ℕ → Option ℕ) (n : ℕ) → Least f n (scan f n)
 scan_least f zero = λ j h. absurd (omega arith)
 scan_least f (suc n) = pick_least f n (scan f n) (scan_least f n) (f n) refl
+
+pub is_none : (o : Option ℕ) → ((c : ℕ) → o ≡ Some c → ⊥) → o ≡ None
+is_none None h = refl
+is_none (Some c) h = absurd (h c refl)

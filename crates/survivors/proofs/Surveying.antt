@@ -1,6 +1,6 @@
 -- Ranks over all samples and over all permitted ends.
-use Rattle.std.proofs.Common.{◌≡◌, ℕ, ◌+◌, ◌*◌, ◌%◌, ◌^◌, ◌<◌, ◌≤◌, min, true, false, cond, List, [], ◌∷◌, ◌++◌, length, map, get_or, take, ℤ, pos, negsuc, Some, None, Option, unwrap_or, sym, refl, ap, ◌∙◌, subst, ap₂, inl, inr, mod-eq_of_lt, arith, length-take, w16, SFits}
-use Rattle.std.proofs.lemmas.List.{take_more, get_or-map, length-map}
+use Rattle.std.proofs.Common.{◌≡◌, ℕ, ◌+◌, ◌-◌, ◌*◌, ◌%◌, ◌^◌, ◌<◌, ◌≤◌, min, true, false, cond, List, [], ◌∷◌, ◌++◌, length, map, get_or, take, drop, replicate, ℤ, pos, negsuc, Some, None, Option, unwrap_or, sym, refl, ap, ◌∙◌, subst, ap₂, inl, inr, ltb, mod-eq_of_lt, arith, length-take, le-ltb, lt-ltb, w16, SFits}
+use Rattle.std.proofs.lemmas.List.{take_more, get_or-map, length-map, get_or_past, get_or-drop, get_or-replicate, length-drop, length-replicate, ext_get_or}
 use Rattle.std.proofs.lemmas.List.FromFn.{get_or-map-range_with_len, length-map-range_with_len}
 use Rattle.std.proofs.lemmas.Int.{ints}
 use Rattle.std.proofs.lemmas.Bool.{cases_lt}
@@ -30,7 +30,7 @@ use Rattle.survivors.specs.declared.rank.Rank.{Rank}
 use Rattle.survivors.specs.Choices.{Costs, CostsOf}
 use Rattle.survivors.specs.Survivors.{best}
 use Rattle.survivors.specs.Reaches.{unreached, as_cost, reached_at, KeptNumbers}
-use Rattle.survivors.specs.Ranks.{widened, tied, two, nowhere, Sound, past, costs_in, Brought, Advanced, opening_rank, Summed, Ranked, gathered}
+use Rattle.survivors.specs.Ranks.{widened, tied, two, nowhere, Sound, past, costs_in, Brought, Advanced, opening_rank, opening_below, ClearPast, Summed, Ranked, gathered}
 use Rattle.survivors.proofs.Rowing.{as_below, as_above, kept_best}
 use Rattle.survivors.proofs.Tabling.{costed_none, costed_more}
 use Rattle.survivors.proofs.Ranking.{wide_low, wide_high, two_second, sounds_more, sound_nowhere, cost_at, opening_reached}
@@ -38,14 +38,24 @@ use Rattle.survivors.proofs.Ranking.{wide_low, wide_high, two_second, sounds_mor
 -- ---- over the samples
 
 module _ {W : Type 0} (r : Semiring W) (laws : Laws r) (g : Rank → W) (cost : ℤ → ℤ → ℕ) (d : Diagram) (lawful : Lawful d) where
-  summed_none : (start : Option ℕ) (row : List Rank) → ((k : ℕ) → k < 64 → get_or row k past ≡ opening_rank start k) → ((k : ℕ) → g (opening_rank start k) ≡ opened r start k) → Summed r g d cost start [] row
-  summed_none start row begins opens s l = ap g (begins s (omega (arith, lawful.few_states))) ∙ opens s ∙ sym (entry d cost r laws lawful start s [] l)
+  summed_none : (start : Option ℕ) (row : List Rank) → ((k : ℕ) → k < d.states → get_or row k past ≡ opening_rank start k) → ((k : ℕ) → g (opening_rank start k) ≡ opened r start k) → Summed r g d cost start [] row
+  summed_none start row begins opens s l = ap g (begins s l) ∙ opens s ∙ sym (entry d cost r laws lawful start s [] l)
 
   summed_more : (start : Option ℕ) (xs : List ℤ) (x : ℤ) (row next : List Rank) → Summed r g d cost start xs row → Brought r g cost x row (branches_of d) next → Summed r g d cost start (xs ++ x ∷ []) next
   summed_more start xs x row next old new s l =
       new s (omega (arith, lawful.few_states)) ∙ all_bring r laws cost d x (λ t. g (get_or row t past)) s
       ∙ stepped_same r laws cost d lawful x (λ t. g (get_or row t past)) (after d cost r (opened r start) xs) (λ t m. old t m ∙ entry d cost r laws lawful start t xs m) s
       ∙ sym (entry d cost r laws lawful start s (xs ++ x ∷ []) l ∙ ap (λ h. h s) (after_push d cost r laws (opened r start) xs x))
+
+  -- one sample more, of any row before the first
+  pub rank_more : (f : ℕ → W) (xs : List ℤ) (k : ℕ) (row next : List Rank) → k < length xs →
+      ((s : ℕ) → s < d.states → g (get_or row s past) ≡ after d cost r f (take k xs) s) → Brought r g cost (get_or xs k (pos 0)) row (branches_of d) next →
+      (s : ℕ) → s < d.states → g (get_or next s past) ≡ after d cost r f (take (k + 1) xs) s
+  rank_more f xs k row next lt old new s l =
+      let x = get_or xs k (pos 0) in
+      new s (omega (arith, lawful.few_states)) ∙ all_bring r laws cost d x (λ t. g (get_or row t past)) s
+      ∙ stepped_same r laws cost d lawful x (λ t. g (get_or row t past)) (after d cost r f (take k xs)) old s
+      ∙ sym (ap (λ h. h s) (ap (after d cost r f) (take_more xs k (pos 0) lt) ∙ after_push d cost r laws f (take k xs) x))
 
   -- over the permitted ends
   pub gathered_sum : (start end : Option ℕ) (xs : List ℤ) (row : List Rank) (n : ℕ) → n ≡ d.states → Summed r g d cost start xs row → gathered r g end row n ≡ path_sum d cost r start end xs
@@ -55,10 +65,10 @@ module _ {W : Type 0} (r : Semiring W) (laws : Laws r) (g : Rank → W) (cost : 
       (λ s l. ap (λ y. cond (permits end s) y r.zero) (sums s l ∙ entry d cost r laws lawful start s xs l))
       ∙ sym (answer d cost r laws lawful start end xs)
 
-opening_tied : (start : Option ℕ) (k : ℕ) → tied (opening_rank start k) ≡ opened cheapest_with_count start k
+pub opening_tied : (start : Option ℕ) (k : ℕ) → tied (opening_rank start k) ≡ opened cheapest_with_count start k
 opening_tied start k = elim (permits start k) as (λ b. tied (cond b (record { cost = 0; count = 1; second = unreached; spare = 0 }) (record { cost = unreached; count = 0; second = unreached; spare = 0 })) ≡ cond b cheapest_with_count.one cheapest_with_count.zero) [ true ↦ refl | false ↦ refl ]
 
-opening_two : (start : Option ℕ) (k : ℕ) → two (opening_rank start k) ≡ opened two_cheapest start k
+pub opening_two : (start : Option ℕ) (k : ℕ) → two (opening_rank start k) ≡ opened two_cheapest start k
 opening_two start k = elim (permits start k) as (λ b. two (cond b (record { cost = 0; count = 1; second = unreached; spare = 0 }) (record { cost = unreached; count = 0; second = unreached; spare = 0 })) ≡ cond b two_cheapest.one two_cheapest.zero) [ true ↦ refl | false ↦ refl ]
 
 opening_sound : (start : Option ℕ) (k : ℕ) → Sound 0 (opening_rank start k)
@@ -68,16 +78,36 @@ opening_sound start k = elim (permits start k) as (λ b. Sound 0 (cond b (record
 ]
 
 module _ (d : Diagram) (lawful : Lawful d) (cost : ℤ → ℤ → ℕ) (start : Option ℕ) where
-  pub ranked_none : (row : List Rank) → row ≡ map (opening_rank start) (range_with_len 0 64) → Ranked d cost start [] row
-  ranked_none row e =
-      let at : (k : ℕ) → k < 64 → get_or row k past ≡ opening_rank start k = λ k l. ap (λ z. get_or z k past) e ∙ get_or-map-range_with_len (opening_rank start) 0 64 k k past l (omega arith) in
-      let long : length row ≡ 64 = ap length e ∙ length-map-range_with_len (opening_rank start) 0 64 in
-      record {
-        costs = costed_none d cost start (costs_in row) (λ k l. let m : k < 64 = omega (arith, lawful.few_states) in opening_reached start row k long m (at k m));
-        tied = summed_none cheapest_with_count cost_count_laws tied cost d lawful start row at (opening_tied start);
-        two = summed_none two_cheapest two_laws two cost d lawful start row at (opening_two start);
-        sounds = λ k l. subst (Sound 0) (sym (at k l)) (opening_sound start k);
-      }
+  -- the row that a start opens, with no path past the states
+  module _ (n : ℕ) (all : n ≡ d.states) (row : List Rank) (e : row ≡ map (opening_below n start) (range_with_len 0 64)) where
+    opened_at : (k : ℕ) → k < 64 → get_or row k past ≡ opening_below n start k
+    opened_at k l = ap (λ z. get_or z k past) e ∙ get_or-map-range_with_len (opening_below n start) 0 64 k k past l (omega arith)
+
+    opened_long : length row ≡ 64
+    opened_long = ap length e ∙ length-map-range_with_len (opening_below n start) 0 64
+
+    at_state : (k : ℕ) → k < d.states → get_or row k past ≡ opening_rank start k
+    at_state k l = opened_at k (omega (arith, lawful.few_states)) ∙ ap (λ b. cond b (opening_rank start k) nowhere) (lt-ltb k n (omega arith))
+
+    past_state : (k : ℕ) → d.states ≤ k → k < 64 → get_or row k past ≡ nowhere
+    past_state k h l = opened_at k l ∙ ap (λ b. cond b (opening_rank start k) nowhere) (le-ltb k n (omega arith))
+
+    pub ranked_none : Ranked d cost start [] row
+    ranked_none = record {
+      costs = costed_none d cost start (costs_in row) (λ k l. opening_reached start row k opened_long (omega (arith, lawful.few_states)) (at_state k l));
+      tied = summed_none cheapest_with_count cost_count_laws tied cost d lawful start row at_state (opening_tied start);
+      two = summed_none two_cheapest two_laws two cost d lawful start row at_state (opening_two start);
+      sounds = λ k l. elim (cases_lt k d.states) [
+        | inl m ↦ subst (Sound 0) (sym (at_state k m)) (opening_sound start k)
+        | inr m ↦ subst (Sound 0) (sym (past_state k m l)) (sound_nowhere 0)
+      ];
+    }
+
+    pub clear_past : ClearPast n row
+    clear_past = ext_get_or past (drop n row) (replicate (64 - n) nowhere) (length-drop n row ∙ (let z : length row - n ≡ 64 - n = omega (arith, opened_long) in z) ∙ sym (length-replicate (64 - n) nowhere))
+        (λ k l.
+        let m : k < 64 - n = omega (arith, length-drop n row, opened_long) in
+        get_or-drop n row k past ∙ past_state (n + k) (omega arith) (omega arith) ∙ sym (get_or-replicate (64 - n) k nowhere past m))
 
   module _ (xs : List ℤ) (k : ℕ) (lt : k < length xs) (row next : List Rank) (bytes : List ℕ) (step : Advanced cost (get_or xs k (pos 0)) row (branches_of d) next bytes) where
     pub kept_step : KeptNumbers 64 (best d cost (get_or xs k (pos 0)) (reached_at (costs_in row))) (costs_in next) bytes
@@ -102,6 +132,16 @@ module _ (d : Diagram) (lawful : Lawful d) (cost : ℤ → ℤ → ℕ) (start :
         let m : s < length row = omega (arith, lawful.few_states) in
         subst (Costs d cost start xs s) (sym (ap (λ z. get_or z s None) e ∙ get_or-map (λ a. as_cost a.cost) row s past None m ∙ sym (ap as_cost (cost_at row s m)))) (of.costs s l);
   }
+
+  -- and nothing for what is no state
+  pub none_past : (row : List Rank) (costs : List (Option ℕ)) → length row ≡ 64 → ClearPast d.states row → costs ≡ map (λ a. as_cost a.cost) row → (s : ℕ) → d.states ≤ s → get_or costs s None ≡ None
+  none_past row costs len clear e s h = elim (cases_lt s 64) [
+    | inl l ↦
+        let n = d.states in
+        let here : get_or row s past ≡ nowhere = sym (get_or-drop n row (s - n) past ∙ ap (λ k. get_or row k past) (let z : n + (s - n) ≡ s = omega arith in z)) ∙ ap (λ z. get_or z (s - n) past) clear ∙ get_or-replicate (64 - n) (s - n) nowhere past (omega arith) in
+        ap (λ z. get_or z s None) e ∙ get_or-map (λ a. as_cost a.cost) row s past None (omega arith) ∙ ap (λ a. as_cost a.cost) here ∙ as_above unreached (omega arith)
+    | inr m ↦ get_or_past costs s None (omega (arith, ap length e, length-map row (λ a. as_cost a.cost), len))
+  ]
 
 -- ---- over the permitted ends, one state more
 

@@ -104,13 +104,13 @@ module _ (d : Diagram) (lawful : Lawful d) (end : Option ℕ) (row : List (Optio
       go None g e = absurd (g q h)
       go (Some p) g e = (path_cost d cost xs p, e)
 
-  none_left : Least (at_end end (held row)) d.states None → HasNoPath d start end (length xs)
+  pub none_left : Least (at_end end (held row)) d.states None → HasNoPath d start end (length xs)
   none_left least q h =
       let m = ends_at d start end (length xs) q h in
       let c = held_some q m.0 m.1 in
       never (at_end_made end (held row) m.0 c.0 m.2 c.1) (least m.0 (arrives_low d lawful start (length xs) m.0 q m.1))
 
-  one_left : (c t : ℕ) → Least (at_end end (held row)) d.states (Some (c, t)) → (p : Path) × First d cost start end xs p × First d cost start (Some t) xs p × (path_cost d cost xs p ≡ c)
+  pub one_left : (c t : ℕ) → Least (at_end end (held row)) d.states (Some (c, t)) → (p : Path) × First d cost start end xs p × First d cost start (Some t) xs p × (path_cost d cost xs p ≡ c)
   one_left c t least =
       let a = at_end_says end (held row) t c least.1 in
       let k = path_known d cost start xs t c (held row t) (of.costs t least.0) a.1 in
@@ -124,7 +124,7 @@ module _ (d : Diagram) (lawful : Lawful d) (end : Option ℕ) (row : List (Optio
           elim (least.2 u l (path_cost d cost xs q) h) [ inl m ↦ inl (subst (λ z. z < path_cost d cost xs q) (sym e) m) | inr m ↦ inr (e ∙ m.0, m.1) ]
 
 -- what the scan of the costs found
-scan_says : (f : ℕ → Option ℕ) (m n : ℕ) (o : Option (ℕ × ℕ)) → m ≡ n → o ≡ scan f m → Least f n o
+pub scan_says : (f : ℕ → Option ℕ) (m n : ℕ) (o : Option (ℕ × ℕ)) → m ≡ n → o ≡ scan f m → Least f n o
 scan_says f m n o e q = subst (λ j. Least f j o) e (subst (Least f m) (sym q) (scan_least f m))
 
 pub ends_from : (d : Diagram) → Lawful d → (end : Option ℕ) (row : List (Option ℕ)) (n : ℕ) → n ≡ d.states → (e : Option Ending) → option_map cost_and_last e ≡ scan (at_end end (held row)) n → Ends d end row e

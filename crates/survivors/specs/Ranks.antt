@@ -1,5 +1,5 @@
 -- How the paths to a state compare, as the code holds it, and as weights of the two pair algebras.
-use Rattle.std.specs.Prelude.{◌≡◌, ℕ, ◌+◌, ◌*◌, ◌%◌, ◌^◌, ◌<◌, ◌≤◌, min, max, cond, List, length, map, ℤ, Some, Option, nat_lt, slice_index_or}
+use Rattle.std.specs.Prelude.{◌≡◌, ℕ, ◌+◌, ◌-◌, ◌*◌, ◌%◌, ◌^◌, ◌<◌, ◌≤◌, min, max, cond, List, length, map, drop, replicate, ℤ, Some, Option, nat_lt, slice_index_or}
 use Rattle.model.specs.Ranges.{most_cost}
 use Rattle.model.specs.Trellises.{Diagram, most_states}
 use Rattle.algebras.specs.declared.weights.CostCount.{CostCount}
@@ -73,6 +73,14 @@ pub record Advanced (cost : ℤ → ℤ → ℕ) (x : ℤ) (from : List Rank) (b
 -- before any sample
 abbrev pub opening_rank : Option ℕ → ℕ → Rank
 opening_rank start s = cond (permits start s) (record { cost = 0; count = 1; second = unreached; spare = 0 }) nowhere
+
+-- the same for the first n states, and no path to what is past them
+abbrev pub opening_below : ℕ → Option ℕ → ℕ → Rank
+opening_below n start s = cond (nat_lt s n) (opening_rank start s) nowhere
+
+-- a row has no path past its first n states
+abbrev pub ClearPast : ℕ → List Rank → Type 0
+ClearPast n row = drop n row ≡ replicate (most_states - n) nowhere
 
 -- at each state the sum over the paths to it on the samples xs, as weights
 abbrev pub Summed : {W : Type 0} → Semiring W → (Rank → W) → Diagram → (ℤ → ℤ → ℕ) → Option ℕ → List ℤ → List Rank → Type 0

@@ -1,11 +1,11 @@
 // The survivor pass over all samples.
-ghost use Rattle.std.specs.Prelude.{◌≡◌, ℕ, ◌*◌, ◌≤◌, length, map, take, replicate, slice_index};
+ghost use Rattle.std.specs.Prelude.{◌≡◌, ℕ, ◌*◌, ◌≤◌, length, map, take, replicate, None, slice_index, slice_index_or};
 ghost use Rattle.std.specs.List.{AllByRecursion, range_with_len};
 ghost use Rattle.model.specs.Ranges.{InRange};
 ghost use Rattle.model.specs.Trellises.{most_states};
 ghost use Rattle.survivors.specs.Choices.{most_samples, TableOf, CostsOf};
 ghost use Rattle.survivors.specs.Reaches.{as_cost};
-ghost use Rattle.survivors.specs.Ranks.{opening_rank, Ranked};
+ghost use Rattle.survivors.specs.Ranks.{opening_rank, opening_below, Ranked, ClearPast};
 ghost use Rattle.survivors.specs.Rows.{Zeros, Tabled};
 
 use crate::costs::as_cost;
@@ -33,11 +33,22 @@ fn opening_rank(start: Option<usize>, state: usize) -> Rank
     }
 }
 
-// That of each state.
-fn open_ranks(start: Option<usize>) -> [Rank; MOST_STATES]
-    ensures { result ≡ map (opening_rank start) (range_with_len 0 most_states) }
+// That of one of the first n states, and no path past them.
+fn opening_below(n: usize, start: Option<usize>, state: usize) -> Rank
+    ensures { result ≡ opening_below n start state }
 {
-    array::from_fn(|state| opening_rank(start, state))
+    if state < n {
+        opening_rank(start, state)
+    } else {
+        NOWHERE
+    }
+}
+
+// That of each of the first n states, and no path past them.
+fn open_ranks(n: usize, start: Option<usize>) -> [Rank; MOST_STATES]
+    ensures { result ≡ map (opening_below n start) (range_with_len 0 most_states) }
+{
+    array::from_fn(|state| opening_below(n, start, state))
 }
 
 // Makes every byte 0.
@@ -67,14 +78,17 @@ fn rank_all<T: Trellis, M: Measure>(
     requires room { length samples.now * most_states ≤ length choices.old }
     requires zeros { Zeros choices.old }
     ensures ranked { Ranked (T.Trellis.meaning trellis.now) (M.Measure.costs measure.now) start samples.now result }
+    ensures past { ClearPast (T.Trellis.meaning trellis.now).states result }
     ensures range { AllByRecursion InRange samples.now }
     ensures table { Tabled (T.Trellis.meaning trellis.now) (M.Measure.costs measure.now) start samples.now (length samples.now) choices.new }
     ensures rest { (i : ℕ) → length samples.now * most_states ≤ i → slice_index choices.new i ≡ 0 }
 {
     let list = list_branches(trellis);
     let branches = list.as_slice();
+    let n = trellis.states();
     let clear = [NOWHERE; MOST_STATES];
-    let mut row = open_ranks(start);
+    let mut row = open_ranks(n, start);
+    let mut next = clear;
     // By place: of bytes written through chunks_exact_mut a proof would know only how many there are.
     for (k, sample) in samples.iter().enumerate() {
         let from = place_of(k, 0);
@@ -82,8 +96,10 @@ fn rank_all<T: Trellis, M: Measure>(
             branches,
             measure,
             *sample,
+            n,
             &clear,
             &mut row,
+            &mut next,
             &mut choices[from..from + MOST_STATES],
         );
     }
@@ -100,6 +116,7 @@ pub(crate) fn fill<T: Trellis, M: Measure>(
 ) -> [Rank; MOST_STATES]
     ensures table { TableOf (T.Trellis.meaning trellis.now) (M.Measure.costs measure.now) start (take most_samples samples.now) choices.new }
     ensures ranked { Ranked (T.Trellis.meaning trellis.now) (M.Measure.costs measure.now) start (take most_samples samples.now) result }
+    ensures past { ClearPast (T.Trellis.meaning trellis.now).states result }
     ensures range { AllByRecursion InRange (take most_samples samples.now) }
 {
     clear_bytes(choices);
@@ -115,8 +132,8 @@ pub(crate) fn rank_costs(row: &[Rank; MOST_STATES]) -> [Option<u64>; MOST_STATES
 
 // Fills a table with the chosen branches: the byte of a step and a state, 0 where no path arrives there and where
 // there is no such sample or state. A start that is no state permits no path, and only the first 512 samples count.
-// Answers what the first of the cheapest paths to each state costs on all of them. What a pass reads stays in arguments of
-// their own, as callers of choose and survey hold them.
+// Answers what the first of the cheapest paths to each state costs on all of them, and nothing for what is no state. What a
+// pass reads stays in arguments of their own, as callers of choose and survey hold them.
 pub fn choose<T: Trellis, M: Measure>(
     trellis: &T,
     measure: &M,
@@ -126,6 +143,7 @@ pub fn choose<T: Trellis, M: Measure>(
 ) -> [Option<u64>; MOST_STATES]
     ensures table { TableOf (T.Trellis.meaning trellis.now) (M.Measure.costs measure.now) start (take most_samples samples.now) choices.new }
     ensures row { CostsOf (T.Trellis.meaning trellis.now) (M.Measure.costs measure.now) start (take most_samples samples.now) result }
+    ensures past { (s : ℕ) → (T.Trellis.meaning trellis.now).states ≤ s → slice_index_or result s None ≡ None }
 {
     rank_costs(&fill(trellis, measure, samples, start, choices))
 }

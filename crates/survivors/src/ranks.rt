@@ -1,10 +1,10 @@
 // One step of the survivor pass: from the ranks of the states to those one sample later, with a byte for each state.
-ghost use Rattle.std.specs.Prelude.{◌≡◌, ◌+◌, ◌^◌, ◌<◌, ◌≤◌, length, nat_lt, replicate, if◌then◌else◌, slice_index_or, slice_set};
+ghost use Rattle.std.specs.Prelude.{◌≡◌, ℕ, ◌+◌, ◌^◌, ◌<◌, ◌≤◌, ◌++◌, length, nat_lt, take, drop, replicate, if◌then◌else◌, slice_index_or, slice_set};
 ghost use Rattle.std.specs.List.{AllByRecursion};
 ghost use Rattle.model.specs.Trellises.{most_states};
 ghost use Rattle.paths.specs.Branches.{Within};
 ghost use Rattle.survivors.specs.Rows.{Zeros};
-ghost use Rattle.survivors.specs.Ranks.{nowhere, joined_rank, Sound, past, Sounds, Advanced};
+ghost use Rattle.survivors.specs.Ranks.{nowhere, joined_rank, Sound, past, Sounds, Advanced, ClearPast};
 
 use crate::costs::UNREACHED;
 use crate::layout::MOST_STATES;
@@ -80,7 +80,8 @@ fn extend<M: Measure>(
     requires sounds { Sounds (2 ^ 61) from.now }
     requires clear { row.old ≡ replicate most_states nowhere }
     requires zeros { Zeros bytes.old }
-    ensures { Advanced (M.Measure.costs measure.now) sample from.now branches.now row.new bytes.new }
+    ensures advanced { Advanced (M.Measure.costs measure.now) sample from.now branches.now row.new bytes.new }
+    ensures past { (n : ℕ) → AllByRecursion (Within most_states n) branches.now → drop n row.new ≡ drop n row.old }
 {
     for branch in branches {
         let cost = measure.cost(branch.label, sample);
@@ -88,24 +89,39 @@ fn extend<M: Measure>(
     }
 }
 
-// One sample further: the ranks and the bytes of all states.
-// The new row begins as a copy of one that is clear, and is copied over the old one: so it was measured the fastest.
+// Copies the first n ranks of a row.
+fn copy_ranks(row: &mut [Rank; MOST_STATES], from: &[Rank; MOST_STATES], n: usize)
+    requires { n ≤ most_states }
+    ensures { row.new ≡ take n from.now ++ drop n row.old }
+{
+    row[..n].copy_from_slice(&from[..n]);
+}
+
+// One sample further: the ranks and the bytes of all states. Past the first n, where no branch leads, there is never a path;
+// so only these are cleared and copied back. Copies of whole rows at once were measured the fastest way to do either.
 pub(crate) fn advance_ranks<M: Measure>(
     branches: &[ListedBranch],
     measure: &M,
     sample: i16,
+    n: usize,
     clear: &[Rank; MOST_STATES],
     row: &mut [Rank; MOST_STATES],
+    next: &mut [Rank; MOST_STATES],
     bytes: &mut [u8],
 )
-    requires within { AllByRecursion (Within most_states most_states) branches.now }
+    requires few { n ≤ most_states }
+    requires within { AllByRecursion (Within most_states n) branches.now }
     requires bytes { most_states ≤ length bytes.old }
     requires sounds { Sounds (2 ^ 61) row.old }
     requires clear { clear.now ≡ replicate most_states nowhere }
+    requires row { ClearPast n row.old }
+    requires next { ClearPast n next.old }
     requires zeros { Zeros bytes.old }
-    ensures { Advanced (M.Measure.costs measure.now) sample row.old branches.now row.new bytes.new }
+    ensures advanced { Advanced (M.Measure.costs measure.now) sample row.old branches.now row.new bytes.new }
+    ensures row { ClearPast n row.new }
+    ensures next { ClearPast n next.new }
 {
-    let mut next = *clear;
-    extend(branches, measure, sample, row, &mut next, bytes);
-    *row = next;
+    copy_ranks(next, clear, n);
+    extend(branches, measure, sample, row, next, bytes);
+    copy_ranks(row, next, n);
 }

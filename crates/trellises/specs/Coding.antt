@@ -15,7 +15,7 @@ use Rattle.trellises.specs.Filling.{full_lawful}
 use Rattle.trellises.specs.Writing.{written_step, written_below}
 
 -- a bit is 0 or 1
-code_bit_below : (r g : ℕ) → code_bit r g < 2
+pub code_bit_below : (r g : ℕ) → code_bit r g < 2
 code_bit_below r g = mod-lt _ (omega arith)
 
 bits_below : (r : ℕ) (gs : List ℕ) → AllByRecursion (λ d. d < 2) (map (code_bit r) gs)
@@ -23,11 +23,11 @@ bits_below r [] = tt
 bits_below r (g ∷ gs) = (code_bit_below r g, bits_below r gs)
 
 -- n generators give n bits
-code_word_below : (gs : List ℕ) (r : ℕ) → code_word gs r < 2 ^ length gs
+pub code_word_below : (gs : List ℕ) (r : ℕ) → code_word gs r < 2 ^ length gs
 code_word_below gs r = simp length-map at (written_below 2 (map (code_bit r) gs) (bits_below r gs))
 
 -- one more bit
-bit_in : (w d i : ℕ) → w < 2 ^ i → d < 2 → 2 * w + d < 2 ^ (i + 1)
+pub bit_in : (w d i : ℕ) → w < 2 ^ i → d < 2 → 2 * w + d < 2 ^ (i + 1)
 bit_in w d i h k = rw (add-one i, pow-suc 2 i) (omega arith)
 
 -- and so where it is shifted in

@@ -1,7 +1,7 @@
 -- The sums of taps, one tap on; and the laws of a channel with taps.
-use Rattle.std.specs.Prelude.{◌≡◌, ℕ, suc, ◌+◌, ◌-◌, ◌*◌, ◌/◌, ◌%◌, ◌^◌, ◌<◌, ◌≤◌, true, List, [], ◌∷◌, length, take, drop, ℤ, pos, negsuc, ◌+ℤ◌, ◌*ℤ◌, slice_index_or, unsigned_abs}
-use Rattle.std.proofs.Common.{ap, sym, ◌∙◌, pow-suc, mul_comm, mul-div_cancel, mul-le-mul, arith, rules}
-use Rattle.std.proofs.Math.Nat.{one-le-pow, pow-le-pow_right}
+use Rattle.std.specs.Prelude.{◌≡◌, ℕ, suc, ◌+◌, ◌-◌, ◌*◌, ◌/◌, ◌%◌, ◌^◌, ◌<◌, ◌≤◌, Bool, true, false, ◌||◌, List, [], ◌∷◌, length, take, drop, ℤ, pos, negsuc, ◌+ℤ◌, ◌*ℤ◌, ◌==◌, slice_index_or, unsigned_abs, refl}
+use Rattle.std.proofs.Common.{ap, sym, subst, ◌∙◌, pow-suc, mul_comm, mul-div_cancel, mul-le-mul, arith, rules}
+use Rattle.std.proofs.Math.Nat.{pow-succ', one-le-pow, pow-le-pow_right}
 use Rattle.std.proofs.Math.Arith.{digits_lt}
 use Rattle.std.specs.List.{AllByRecursion}
 use Rattle.std.proofs.lemmas.Nat.{div_below}
@@ -11,9 +11,9 @@ use Rattle.std.proofs.lemmas.Bool.Decides.{nat_tests}
 use Rattle.std.proofs.lemmas.Bool.{and_parts}
 use Rattle.model.specs.Ranges.{InRange}
 use Rattle.model.specs.Trellises.{Lawful, most_states}
-use Rattle.trellises.specs.Checks.{tap_fits, taps_fit}
+use Rattle.trellises.specs.Checks.{checked, tap_fits, taps_fit}
 use Rattle.trellises.specs.Digits.{written, digits_of}
-use Rattle.trellises.specs.Taps.{level, tapped, memory, last_letters, next_state, taps_label, taps, taps_check}
+use Rattle.trellises.specs.Taps.{level, tapped, memory, last_letters, next_state, taps_label, taps, most_taps, taps_check}
 use Rattle.trellises.specs.Filling.{full_lawful}
 use Rattle.trellises.specs.Writing.{written_digits, digits_below, take_digits, digits_above}
 
@@ -37,6 +37,10 @@ tapped_size letters (h ∷ hs) (a ∷ ls) few e below =
     let later = tapped_size letters hs ls few p.1 below.1 in
     omega (arith, ints)
 
+-- a place is the next one, raised by a letter
+raised : (letters : ℕ) (hs : List ℤ) (i place : ℕ) → i < length hs → place ≡ letters ^ length (drop i hs) → place ≡ letters ^ length (drop (i + 1) hs) * letters
+raised letters hs i place within placed = placed ∙ rw (drop_more hs i (pos 0) within) (pow-suc letters (length (drop (i + 1) hs)))
+
 -- one turn: the newest letter of a register that is below its place, and what is left of both
 pub record Turn (letters : ℕ) (hs : List ℤ) (i place rest : ℕ) : Type 0 where
   pub some : 0 < place / letters
@@ -47,13 +51,13 @@ pub record Turn (letters : ℕ) (hs : List ℤ) (i place rest : ℕ) : Type 0 wh
 pub turn : (letters : ℕ) (hs : List ℤ) (i place rest : ℕ) → 2 ≤ letters → i < length hs → place ≡ letters ^ length (drop i hs) → rest < place → Turn letters hs i place rest
 turn letters hs i place rest two within placed below =
     let left = drop (i + 1) hs in
-    let raised : place ≡ letters ^ length left * letters = placed ∙ rw (drop_more hs i (pos 0) within) (pow-suc letters (length left)) in
-    let after : place / letters ≡ letters ^ length left = rw raised (mul-div_cancel (letters ^ length left) (omega arith)) in
+    let whole : place ≡ letters ^ length left * letters = raised letters hs i place within placed in
+    let after : place / letters ≡ letters ^ length left = rw whole (mul-div_cancel (letters ^ length left) (omega arith)) in
     let some : 0 < place / letters = rw after (one-le-pow (length left) letters (omega arith)) in
     record {
       some = some;
       place_left = after;
-      letter = div_below rest (place / letters) letters some (rw after (omega (arith, raised)));
+      letter = div_below rest (place / letters) letters some (rw after (omega (arith, whole)));
       adds = rw (after, drop_more hs i (pos 0) within);
     }
 
@@ -64,6 +68,9 @@ module _ (letters : ℕ) (hs : List ℤ) (s a : ℕ) (tap : 1 ≤ length hs) (st
 
   as_digits : digits_of letters (length hs) (a * letters ^ memory hs + s) ≡ last_letters letters hs s a
   as_digits = ap (λ n. digits_of letters n (a * letters ^ memory hs + s)) (sym counted) ∙ digits_above letters (memory hs) a s state
+
+  pub register_below : a * letters ^ memory hs + s < letters ^ length hs
+  register_below = subst (λ n. a * letters ^ memory hs + s < letters ^ n) counted (rw (pow-succ' letters (memory hs)) (digits_lt letter state))
 
   pub label_is : tapped letters hs (digits_of letters (length hs) (a * letters ^ memory hs + s)) ≡ taps_label letters hs s a
   label_is = ap (tapped letters hs) as_digits
@@ -94,12 +101,21 @@ module _ (letters : ℕ) (hs : List ℤ) (some : 1 ≤ letters) (four : letters 
       full_lawful (letters ^ memory hs) letters _ (one-le-pow (memory hs) letters some) few some four
       (λ s a h l. (rw (← next_is letters hs s a tap h l) (next_below letters hs s a tap h l), label_range (last_letters letters hs s a) (letters_below letters hs s a tap h l)))
 
+-- a check that goes on to 0 held
+passed : (b : Bool) (r rest : ℕ) → 0 < r → 0 ≡ checked b r rest → (b ≡ true) × (0 ≡ rest)
+passed true r rest h e = (refl, e)
+passed false r rest h e = absurd (omega arith)
+
 -- as many taps as there may be make few states
 two_few : (k : ℕ) → k ≤ 7 → 2 ^ (k - 1) ≤ most_states
 two_few k h = let p : k - 1 ≤ 6 = omega arith in pow-le-pow_right {n = 2} (omega arith) p
 
 four_few : (k : ℕ) → k ≤ 4 → 4 ^ (k - 1) ≤ most_states
 four_few k h = let p : k - 1 ≤ 3 = omega arith in pow-le-pow_right {n = 4} (omega arith) p
+
+-- and so for two letters or four
+few : (n k : ℕ) → (n == 2 || n == 4) ≡ true → k ≤ most_taps n → (2 ≤ n) × (n ≤ 4) × (k ≤ 7) × (n ^ (k - 1) ≤ most_states)
+few n k e h = (grind (arith, nat_tests), grind (arith, nat_tests), grind (arith, nat_tests), grind (arith, two_few, four_few, nat_tests))
 
 -- what an accepted check says
 pub accepted : (letters : ℤ) (hs : List ℤ) → 0 ≡ taps_check letters hs → record { within : length hs ≤ 7; small : taps_fit hs ≡ true }

@@ -1,10 +1,11 @@
 -- Numbers written digit by digit.
-use Rattle.std.specs.Prelude.{◌≡◌, ℕ, zero, suc, ◌+◌, ◌*◌, ◌/◌, ◌%◌, ◌^◌, ◌<◌, List, [], ◌∷◌, length, take, refl}
-use Rattle.std.proofs.Common.{ap, ap₂, sym, ◌∙◌, pow-suc, add-mul, mul_assoc, mul_comm, mod-lt, div-add-mod', arith}
+use Rattle.std.specs.Prelude.{◌≡◌, ℕ, zero, suc, ◌+◌, ◌*◌, ◌/◌, ◌%◌, ◌^◌, ◌<◌, ◌≤◌, List, [], ◌∷◌, map, length, take, drop, slice_index, refl}
+use Rattle.std.proofs.Common.{ap, ap₂, sym, subst, ◌∙◌, pow-suc, add-mul, mul_assoc, mul_comm, mod-lt, div-add-mod', arith}
 use Rattle.std.proofs.Math.Nat.{pow-zero, one-le-pow, div-div-eq-div-mul, pow-succ'}
 use Rattle.std.proofs.Math.Arith.{digits_lt, digits_div, digits_mod, mod-mul, lt-one}
 use Rattle.std.specs.List.{AllByRecursion}
 use Rattle.std.proofs.lemmas.Nat.{div_below}
+use Rattle.std.proofs.lemmas.List.{length-map, drop_more, drop_all}
 use Rattle.trellises.specs.Digits.{written, digits_of}
 
 -- one more digit is taken into the number so far
@@ -14,6 +15,18 @@ written_step base w d ds =
     let q = add-mul (base * w) d (base ^ length ds) in
     let r : base * w * base ^ length ds ≡ w * base ^ suc (length ds) = rw p (ap (λ x. x * base ^ length ds) (mul_comm base w) ∙ mul_assoc w base (base ^ length ds) ∙ ap (λ x. w * x) (mul_comm base (base ^ length ds))) in
     omega arith
+
+-- the same, where the digits are made of the rest of a list
+pub written_more : (base : ℕ) (f : ℕ → ℕ) (w : ℕ) (xs : List ℕ) (i : ℕ) → i < length xs → (base * w + f (slice_index xs i)) * base ^ length (drop (i + 1) xs) + written base (map f (drop (i + 1) xs)) ≡ w * base ^ length (drop i xs) + written base (map f (drop i xs))
+written_more base f w xs i h =
+    let rest = drop (i + 1) xs in
+    let d = f (slice_index xs i) in
+    let P : ℕ → Type 0 = λ n. (base * w + d) * base ^ n + written base (map f rest) ≡ w * base ^ suc n + written base (d ∷ map f rest) in
+    rw (drop_more xs i 0 h) (subst P (length-map rest f) (written_step base w d (map f rest)))
+
+-- no digit is left
+pub written_all : (base : ℕ) (f : ℕ → ℕ) (w : ℕ) (xs : List ℕ) (i : ℕ) → length xs ≤ i → w * base ^ length (drop i xs) + written base (map f (drop i xs)) ≡ w
+written_all base f w xs i h = rw (drop_all i xs h, pow-zero base) (omega arith)
 
 -- n digits write a number below base ^ n
 pub written_below : (base : ℕ) (ds : List ℕ) → AllByRecursion (λ d. d < base) ds → written base ds < base ^ length ds

@@ -24,5 +24,6 @@ returns g c =
       table = subst (λ ys. TableOf d p start ys table) c.counted.ensures
           (table_made d p start xs table (c.rank_all.auto.choices ∙ c.clear_bytes.auto.bytes ∙ c.told-choices) n c.rank_all.ensures.table c.rank_all.ensures.rest);
       ranked = subst (λ ys. Ranked d p start ys c.rank_all.result) c.counted.ensures c.rank_all.ensures.ranked;
+      past = c.rank_all.ensures.past;
       range = subst (AllByRecursion InRange) c.counted.ensures c.rank_all.ensures.range;
     }

@@ -1,4 +1,4 @@
-use Rattle.std.proofs.Common.{◌≡◌, ◌+◌, ◌^◌, cond, ltb, get_or, set, pos, ap, ◌∙◌, subst, arith, take_all, w16, SFits, to_z, of_z, rules}
+use Rattle.std.proofs.Common.{◌≡◌, ◌+◌, ◌^◌, cond, ltb, get_or, set, drop, drop-set-lt, pos, refl, ap, ◌∙◌, subst, arith, take_all, w16, SFits, to_z, of_z, rules}
 use Rattle.std.proofs.ByRecursion.{All-get_or}
 use Rattle.std.proofs.lemmas.List.{get_or_default}
 use Rattle.std.proofs.lemmas.Int.{to_z-of_z}
@@ -15,7 +15,7 @@ none = record { from = 0; next = 0; byte = 0; label = pos 0 }
 pub loop-branch-init : goal.loop-branch-init
 loop-branch-init g c =
     let x = to_z w16 (of_z w16 c.args.sample) in
-    (advanced_none (g.M.Measure.costs c.args.measure.now) x c.args.from.now c.args.row.now c.args.bytes.now c.told-row c.requires.clear c.requires.zeros, c.told-row)
+    (advanced_none (g.M.Measure.costs c.args.measure.now) x c.args.from.now c.args.row.now c.args.bytes.now c.told-row c.requires.clear c.requires.zeros, c.told-row, λ n all. refl)
 
 pub put-requires : goal.put-requires
 put-requires g c =
@@ -48,10 +48,15 @@ loop-branch-preserved g c =
           (put ∙ ap (λ z. set row b.next (joined_rank (get_or row b.next past) (get_or from b.from past) z)) w)
           (byte ∙ ap (λ z. cond (ltb ((get_or from b.from past).cost + z) (get_or row b.next past).cost) (set bytes b.next b.byte) bytes) w),
       search rules,
+      λ n all. ap (drop n) c.put.ensures.row ∙ drop-set-lt n row b.next _ (All-get_or (Within 64 n) bs i none lt all).1 ∙ c.loop-branch.invariant.2 n all,
     )
 
 pub returns : goal.returns
 returns g c =
     let p = g.M.Measure.costs c.args.measure.now in
-    subst (λ z. Advanced p z c.args.from.now c.args.branches.now c.loop-branch.row c.loop-branch.bytes) (to_z-of_z w16 c.args.sample c.ranges.sample)
-    (subst (λ bs. Advanced p (to_z w16 (of_z w16 c.args.sample)) c.args.from.now bs c.loop-branch.row c.loop-branch.bytes) (take_all c.loop-branch.branch-index c.args.branches.now c.loop-branch-test.false) c.loop-branch.invariant.0)
+    record {
+      advanced =
+          subst (λ z. Advanced p z c.args.from.now c.args.branches.now c.loop-branch.row c.loop-branch.bytes) (to_z-of_z w16 c.args.sample c.ranges.sample)
+          (subst (λ bs. Advanced p (to_z w16 (of_z w16 c.args.sample)) c.args.from.now bs c.loop-branch.row c.loop-branch.bytes) (take_all c.loop-branch.branch-index c.args.branches.now c.loop-branch-test.false) c.loop-branch.invariant.0);
+      past = λ n all. c.loop-branch.invariant.2 n all;
+    }

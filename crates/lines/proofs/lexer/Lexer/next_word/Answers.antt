@@ -4,7 +4,7 @@ use Rattle.std.proofs.lemmas.List.{drop-drop}
 use Rattle.lines.specs.Words.{is_space, other, words, first, others}
 use Rattle.lines.specs.Lexers.{Spelled, spelled_at}
 use Rattle.lines.proofs.Runs.{run_length}
-use Rattle.lines.proofs.Lexing.{none_left, no_word, word_cut, word_is}
+use Rattle.lines.proofs.Lexing.{none_left, none_here, no_word, word_cut, word_is}
 use Rattle.lines.proofs.lexer.Lexer.next_word.Goals as goal
 
 pub returns-then-is_empty : goal.returns-then-is_empty
@@ -14,8 +14,14 @@ returns-then-is_empty c =
     let run = c.leading_spaces.ensures ∙ run_length is_space r in
     let empty = eqb-true (length c.ahead-start.result.rest.now) 0 (sym c.if-is_empty.ensures) in
     let none = none_left r _ _ run c.ahead-start.ensures.rest empty in
-    let here : at - at ≡ 0 = omega arith in
-    record { word = no_word r _ _ run c.ahead-start.ensures.rest empty at; bytes = sym (ap first none); others = none ∙ sym (ap others none); rest = rw here }
+    let here = none_here r _ _ run c.ahead-start.ensures.rest empty in
+    let moved : c.leading_spaces.result ≡ c.ahead-start.result.at - at = omega (arith, c.ahead-start.ensures.at) in
+    record {
+      word = no_word r _ _ run c.ahead-start.ensures.rest empty at;
+      bytes = sym (ap first none);
+      others = here ∙ sym (ap others none);
+      rest = c.ahead-start.ensures.rest ∙ ap (λ (k : ℕ). drop k r) moved;
+    }
 
 pub returns : goal.returns
 returns c =
