@@ -5,7 +5,7 @@ ghost use Rattle.model.specs.Ranges.{InRange};
 ghost use Rattle.model.specs.Trellises.{most_states};
 ghost use Rattle.survivors.specs.Choices.{most_samples, TableOf, CostsOf};
 ghost use Rattle.survivors.specs.Reaches.{as_cost};
-ghost use Rattle.survivors.specs.Ranks.{opening_rank, opening_below, Ranked, ClearPast};
+ghost use Rattle.survivors.specs.Ranks.{opening_below, Ranked, ClearPast};
 ghost use Rattle.survivors.specs.Rows.{Zeros, Tabled};
 
 use crate::costs::as_cost;
@@ -18,11 +18,12 @@ use paths::anchor::is_permitted;
 use paths::branches::list_branches;
 use std::array;
 
-// The rank of a state before any sample: one path without steps to a permitted start, and none to any other state.
-fn opening_rank(start: Option<usize>, state: usize) -> Rank
-    ensures { result ≡ opening_rank start state }
+// The rank of a state before any sample: one path without steps to a permitted start among the first n states, and none to
+// any other.
+fn opening_below(n: usize, start: Option<usize>, state: usize) -> Rank
+    ensures { result ≡ opening_below n start state }
 {
-    if is_permitted(start, state) {
+    if state < n && is_permitted(start, state) {
         Rank {
             cost: 0,
             count: 1,
@@ -33,18 +34,7 @@ fn opening_rank(start: Option<usize>, state: usize) -> Rank
     }
 }
 
-// That of one of the first n states, and no path past them.
-fn opening_below(n: usize, start: Option<usize>, state: usize) -> Rank
-    ensures { result ≡ opening_below n start state }
-{
-    if state < n {
-        opening_rank(start, state)
-    } else {
-        NOWHERE
-    }
-}
-
-// That of each of the first n states, and no path past them.
+// That of each state.
 fn open_ranks(n: usize, start: Option<usize>) -> [Rank; MOST_STATES]
     ensures { result ≡ map (opening_below n start) (range_with_len 0 most_states) }
 {

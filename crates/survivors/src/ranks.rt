@@ -98,7 +98,7 @@ fn copy_ranks(row: &mut [Rank; MOST_STATES], from: &[Rank; MOST_STATES], n: usiz
 }
 
 // One sample further: the ranks and the bytes of all states. Past the first n, where no branch leads, there is never a path;
-// so only these are cleared and copied back. Copies of whole rows at once were measured the fastest way to do either.
+// so only these are cleared and copied back, by copies, which were measured the fastest for both.
 pub(crate) fn advance_ranks<M: Measure>(
     branches: &[ListedBranch],
     measure: &M,
